@@ -1,0 +1,5 @@
+pub mod Edges
+pub mod Errors
+pub mod Images
+pub mod Rules
+pub mod Twelve

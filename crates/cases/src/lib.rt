@@ -1,0 +1,1 @@
+// Cases of document 01, proved of the definitions by computation. All of it stands in specs/.

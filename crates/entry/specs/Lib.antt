@@ -1,0 +1,4 @@
+pub mod Acts
+pub mod AtNode
+pub mod Entry
+pub mod Fits

@@ -1,0 +1,14 @@
+pub mod Clear
+pub mod Collect
+pub mod Drop
+pub mod Event
+pub mod EventRecord
+pub mod Load
+pub mod Move
+pub mod New
+pub mod Outcome
+pub mod Receive
+pub mod Send
+pub mod Settle
+pub mod Step
+pub mod Store

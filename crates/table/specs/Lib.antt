@@ -1,0 +1,4 @@
+pub mod Depth
+pub mod Formed
+pub mod Shape
+pub mod Table
