@@ -2,11 +2,11 @@
 -- Definitions only; assumes nothing.
 use mathlib.Core.Bool.{Bool, true, false}
 use mathlib.Core.List.{List}
-use Prim.Native.Nat.{ℕ, _+_}
+use Prim.Native.Nat.{ℕ}
+use lib.Dec.{eqb}
 use Rattle.terms.specs.Choose.{Refusal, answered}
 use Rattle.terms.specs.Numbers.{ACCEPTED}
 use Rattle.table.specs.declared.Table.{Table}
-use Rattle.table.specs.Table.{withCount}
 use Rattle.step.specs.declared.Deed.{Deed}
 use Rattle.step.specs.declared.Deed.the-variants.{Refused, Arranged, Born, Sent, CameHome, Made, Merged, Answered, Settled, Collected, Dropped, Cleared}
 use Rattle.step.specs.declared.Outcome.{Outcome}
@@ -15,9 +15,12 @@ use Rattle.step.specs.declared.Outcome.{Outcome}
 abbrev pub refused : Table → ℕ → Outcome
 refused t number = record { answer = number; deed = Refused; table = t }
 
--- accepted: the new state, with one event more counted
+-- done: the new state; Step counts the event
 abbrev pub did : Deed → Table → Outcome
-did deed t = record { answer = ACCEPTED; deed = deed; table = withCount t (t .count + 1) }
+did deed t = record { answer = ACCEPTED; deed = deed; table = t }
+
+abbrev pub isAccepted : Outcome → Bool
+isAccepted o = eqb (o .answer) ACCEPTED
 
 -- a rule: what the event is refused for, in the order in which it is tried, and what it does otherwise
 pub record Rule : Type 0 where

@@ -1,20 +1,21 @@
 -- One step for every table and every event (document 01, "Numbers given for a refused event"): the refusals that any event may meet,
--- then those of its kind, in the order in which they are tried, then its effect. Definitions only; assumes nothing.
+-- then those of its kind, in the order in which they are tried, then its effect, which is counted. Definitions only; assumes nothing.
 use mathlib.Core.Bool.{Bool, true, false, not}
 use mathlib.Core.List.{List, [], _∷_, _++_}
-use Prim.Native.Nat.{ℕ}
+use Prim.Native.Nat.{ℕ, _+_}
 use lib.Dec.{ltb}
-use Rattle.terms.specs.Choose.{Refusal, _when_}
+use Rattle.terms.specs.Choose.{Refusal, if_then_else_, _when_, answered}
 use Rattle.terms.specs.Limits.{EVENTS}
 use Rattle.terms.specs.Numbers.{SHAPE, EVENT, ENDED}
 use Rattle.table.specs.declared.Table.{Table}
 use Rattle.table.specs.Shape.{fitsTable}
+use Rattle.table.specs.Table.{withCount}
 use Rattle.step.specs.declared.Event.{Event}
 use Rattle.step.specs.declared.Kind.{Kind}
 use Rattle.step.specs.declared.Kind.the-variants.{New, Move, Clear, Load, Store, Send, Receive, Settle, Collect, Drop, Unknown}
 use Rattle.step.specs.declared.Outcome.{Outcome}
 use Rattle.step.specs.Event.{kindOf, fitsEvent}
-use Rattle.step.specs.Outcome.{Rule, by, refused}
+use Rattle.step.specs.Outcome.{Rule, by, isAccepted, refused}
 use Rattle.step.specs.New.{new}
 use Rattle.step.specs.Move.{move}
 use Rattle.step.specs.Clear.{clear}
@@ -55,6 +56,13 @@ common t e =
 abbrev pub refusalsOf : Table → Event → List Refusal
 refusalsOf t e = common t e ++ ruleOf t e .refusals
 
+-- an accepted event adds 1 to the count
+abbrev pub counted : Outcome → Outcome
+counted o =
+    if isAccepted o
+    then record { answer = o .answer; deed = o .deed; table = withCount (o .table) (o .table .count + 1) }
+    else o
+
 -- the first refusal that applies, or the effect
 unfoldable pub step : Table → Event → Outcome
-step t e = by t (record { refusals = refusalsOf t e; effect = ruleOf t e .effect })
+step t e = answered (refused t) (common t e) (counted (by t (ruleOf t e)))
