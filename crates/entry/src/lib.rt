@@ -1,4 +1,8 @@
 // An entry of the field table: what one node knows of one object. At the owner it is a directory, elsewhere a remote entry.
+mod at_node; // at_node.rt: the acts on whatever stands for an object
+mod at_owner; // at_owner.rt: the acts on a directory
+mod elsewhere; // elsewhere.rt: the acts on a remote entry
+mod returns; // returns.rt: return counts and weights
 
 // References sent home less those that came home, so a directory's may be below zero.
 pub struct ReturnCount(pub i32);
@@ -42,4 +46,18 @@ pub struct RemoteAct {
 pub struct EntryAct {
     pub refusal: u8,
     pub entry: Entry,
+}
+
+impl Entry {
+    pub const NODES: u8 = 8;
+
+    // Objects that one node owns.
+    pub const OWNED: u8 = 8;
+}
+
+impl EntryAct {
+    pub const ACCEPTED: u8 = 0;
+
+    // No accepted events lead to such a state.
+    pub const TORN: u8 = 12;
 }

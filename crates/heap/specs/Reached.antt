@@ -2,20 +2,20 @@
 -- hold, and why as many rounds as the scope has objects are enough. For code that walks in another order: `walked-only`. Assumes nothing.
 use mathlib.Core.Path.{_≡_, refl, sym, ap, _∙_}
 use mathlib.Core.Bool.{Bool, true, false, not, true≢false, false≢true}
-use mathlib.Core.List.{List, [], _∷_}
+use mathlib.Core.List.{List, [], _∷_, _++_}
 use mathlib.Core.Logic.{_↔_, Iff·trans, Iff·symm, _⊎_, inl, inr, ⊎-elim}
-use Prim.Native.Nat.{ℕ, zero, suc, _<_, _≤_}
+use Prim.Native.Nat.{ℕ, zero, suc, _+_, _-_, _<_, _≤_}
 use native.Mathlib.Decide.{decLt}
 use native.Mathlib.Omega.{arith}
 use lib.ListN.{length, getD, set, replicate, length-set}
 use lib.Seq.{ext-getD}
 use Rattle.terms.specs.Choose.{if_then_else_, _and_}
-use Rattle.terms.specs.Counted.{holds, howMany, listFrom}
-use Rattle.terms.specs.CountedLaws.{Some, and-passes, howMany-le, howMany-lt, howMany-none, holds-first, holds-gather, holds-list}
+use Rattle.terms.specs.Counted.{holds, howMany, list, listFrom, gatherFrom}
+use Rattle.terms.specs.CountedLaws.{Some, and-passes, listFrom-first, gatherFrom-first, howMany-le, howMany-lt, howMany-none, length-list, getD-list, holds-first, holds-gather, holds-list}
 use Rattle.terms.specs.Limits.{OBJECTS, FIELDS}
 use Rattle.heap.specs.declared.Heap.{Heap}
 use Rattle.heap.specs.Heap.{fieldAt, fieldsOf}
-use Rattle.heap.specs.Walk.{Scope, Within, Reached, started, through, Marks, unmarked, isMarked, mark, heldBy, rounds, reached}
+use Rattle.heap.specs.Walk.{Scope, everywhere, Within, Reached, started, through, Marks, unmarked, isMarked, mark, heldBy, rounds, reached}
 
 -- ---- marks
 
@@ -29,8 +29,8 @@ unmarked-none o = go OBJECTS o
     go (suc n) (suc i) = go n i
 
 -- marks are the same where they mark the same
-pub marks-same : (m n : Marks) → length m ≡ length n → ((o : ℕ) → (isMarked m o ≡ true) ↔ (isMarked n o ≡ true)) → m ≡ n
-marks-same m n len same = ext-getD false m n len (λ o lt. go (isMarked m o) (isMarked n o) (same o))
+pub marks-same : (m n : Marks) → length m ≡ length n → ((o : ℕ) → o < length m → (isMarked m o ≡ true) ↔ (isMarked n o ≡ true)) → m ≡ n
+marks-same m n len same = ext-getD false m n len (λ o lt. go (isMarked m o) (isMarked n o) (same o lt))
   where
     go : (a b : Bool) → (a ≡ true) ↔ (b ≡ true) → a ≡ b
     go true b e = sym (e .0 refl)
@@ -119,6 +119,35 @@ mark-only scope m (x ∷ xs) o on =
 pub mark-is : (scope : Scope) (m : Marks) (xs : List ℕ) (o : ℕ) → (isMarked (mark scope m xs) o ≡ true) ↔ ((isMarked m o ≡ true) ⊎ Added scope m xs o)
 mark-is scope m xs o = (mark-only scope m xs o, ⊎-elim (mark-grows scope m xs o) (mark-adds scope m xs o))
 
+-- two lists are marked one after the other
+pub mark-append : (scope : Scope) (m : Marks) (xs ys : List ℕ) → mark scope m (xs ++ ys) ≡ mark scope (mark scope m xs) ys
+unfolding mark
+mark-append scope m [] ys = refl
+mark-append scope m (x ∷ xs) ys = mark-append scope (marking scope m x) xs ys
+
+-- f i is marked, and then those after it
+pub mark-next : {i n : ℕ} (m : Marks) (f : ℕ → ℕ) → i < n
+    → mark everywhere m (listFrom i (n - i) f) ≡ mark everywhere (set m (f i) true) (listFrom (i + 1) (n - (i + 1)) f)
+unfolding mark
+mark-next m f lt = rw (listFrom-first lt f)
+
+-- the list f i is marked, and then those after it
+pub mark-gathered : {i n : ℕ} (m : Marks) (f : ℕ → List ℕ) → i < n
+    → mark everywhere m (gatherFrom i (n - i) f) ≡ mark everywhere (mark everywhere m (f i)) (gatherFrom (i + 1) (n - (i + 1)) f)
+mark-gathered {i} {n} m f lt = rw (gatherFrom-first lt f) (mark-append everywhere m (f i) (gatherFrom (i + 1) (n - (i + 1)) f))
+
+-- to mark a list everywhere is to ask of each object whether the list holds it
+pub mark-everywhere : (xs : List ℕ) → mark everywhere unmarked xs ≡ list OBJECTS (holds xs)
+mark-everywhere xs = marks-same (mark everywhere unmarked xs) (list OBJECTS (holds xs)) (len ∙ sym (length-list 0 OBJECTS (holds xs))) (λ o lt.
+    let at = getD-list OBJECTS (holds xs) o false (omega (arith, len)) in
+    let none : isMarked unmarked o ≡ true → ⊥ = λ was. false≢true (sym (unmarked-none o) ∙ was) in (
+      λ on. at ∙ ⊎-elim (λ was. absurd (none was)) (λ a. a .listed) (mark-only everywhere unmarked xs o on),
+      λ on. mark-adds everywhere unmarked xs o (record { place = omega (arith, len); inside = refl; listed = sym at ∙ on }),
+    ))
+  where
+    len : length (mark everywhere unmarked xs) ≡ OBJECTS
+    len = mark-length everywhere unmarked xs
+
 -- ---- what marked objects hold
 
 -- a list that stands there only if a test passes holds x where both are so
@@ -162,7 +191,7 @@ abbrev isLeft : Scope → Marks → ℕ → Bool
 isLeft scope m o = scope o and not (isMarked m o)
 
 -- how many are left
-abbrev left : Scope → Marks → ℕ
+abbrev pub left : Scope → Marks → ℕ
 left scope m = howMany OBJECTS (isLeft scope m)
 
 -- an object of the scope is marked or left
@@ -173,11 +202,27 @@ marked-or-left scope m o inside = go (isMarked m o)
     go true = inl refl
     go false = inr (rw inside)
 
--- what is left after marking was left before
-left-before : (scope : Scope) (m : Marks) (xs : List ℕ) (o : ℕ) → isLeft scope (mark scope m xs) o ≡ true → isLeft scope m o ≡ true
-left-before scope m xs o l =
-    let both = and-passes (scope o) (not (isMarked (mark scope m xs) o)) .0 l in
-    ⊎-elim (λ on. absurd (false≢true (rw (mark-grows scope m xs o on) at (both .1)))) (λ was. was) (marked-or-left scope m o (both .0))
+-- where the marks m grow to n
+module _ (scope : Scope) (m n : Marks) (grows : (o : ℕ) → isMarked m o ≡ true → isMarked n o ≡ true) where
+  -- what is left after was left before
+  left-before : (o : ℕ) → o < OBJECTS → isLeft scope n o ≡ true → isLeft scope m o ≡ true
+  left-before o lt l =
+      let both = and-passes (scope o) (not (isMarked n o)) .0 l in
+      ⊎-elim (λ on. absurd (false≢true (rw (grows o on) at (both .1)))) (λ was. was) (marked-or-left scope m o (both .0))
+
+  -- no more are left
+  pub left-le : left scope n ≤ left scope m
+  left-le = howMany-le OBJECTS (isLeft scope n) (isLeft scope m) left-before
+
+  -- and fewer, where an object of the scope is marked that was left
+  left-lt : (o : ℕ) → Within scope o → isMarked n o ≡ true → isLeft scope m o ≡ true → left scope n < left scope m
+  left-lt o w on l = howMany-lt OBJECTS (isLeft scope n) (isLeft scope m) left-before o (w .number) (rw (w .inside, on)) l
+
+-- to mark an object of the scope leaves fewer
+pub left-set : (scope : Scope) (m : Marks) (o : ℕ) → length m ≡ OBJECTS → Within scope o → isMarked m o ≡ false → left scope (set m o true) < left scope m
+left-set scope m o len w off =
+    let on = set-is m o o .1 (inr (omega (arith, w .number), refl)) in
+    left-lt scope m (set m o true) (λ x was. set-is m o x .1 (inl was)) o w on (rw (w .inside, off))
 
 -- ---- rounds
 
@@ -224,8 +269,7 @@ module _ (h : Heap) (scope : Scope) where
     no-fewer : ¬ (left scope (round m) < left scope m) → Closed h scope m
     no-fewer same o y w =
         let on : isMarked (round m) o ≡ true = round-is o .1 (inr (y, w)) in
-        let before : (k : ℕ) → k < OBJECTS → isLeft scope (round m) k ≡ true → isLeft scope m k ≡ true = λ k lt. left-before scope m (heldBy h m) k in
-        let fewer = howMany-lt OBJECTS (isLeft scope (round m)) (isLeft scope m) before o (w .number) (rw (w .inside, on)) in
+        let fewer = left-lt scope m (round m) (mark-grows scope m (heldBy h m)) o w on in
         ⊎-elim (λ was. was) (λ l. absurd (same (fewer l))) (marked-or-left scope m o (w .inside))
 
     -- a round keeps closed marks closed
@@ -335,4 +379,4 @@ module _ (h : Heap) (scope : Scope) (starts : List ℕ) where
   -- a walk that has ended, in whatever order, has these marks and no others
   pub walked-only : {m : Marks} → Walked h scope starts m → m ≡ reached h scope starts
   walked-only {m} walked =
-      marks-same m (reached h scope starts) (walked .size ∙ sym reached-length) (λ o. Iff·trans (walked-is walked o) (Iff·symm (reached-is o)))
+      marks-same m (reached h scope starts) (walked .size ∙ sym reached-length) (λ o lt. Iff·trans (walked-is walked o) (Iff·symm (reached-is o)))

@@ -3,12 +3,12 @@
 use mathlib.Core.Path.{_≡_}
 use mathlib.Core.Bool.{Bool, true, false}
 use mathlib.Core.List.{List, [], _∷_}
-use Prim.Native.Nat.{ℕ, zero, suc, _<_}
+use Prim.Native.Nat.{ℕ, zero, suc, _+_, _*_, _<_}
 use lib.Dec.{eqb}
 use lib.ListN.{getD, set, replicate}
 use Rattle.terms.specs.Choose.{if_then_else_}
 use Rattle.terms.specs.Counted.{gather, holds, howMany}
-use Rattle.terms.specs.Limits.{OBJECTS, FIELDS, owner}
+use Rattle.terms.specs.Limits.{OBJECTS, OWNED, FIELDS, owner}
 use Rattle.heap.specs.declared.Heap.{Heap}
 use Rattle.heap.specs.Heap.{fieldAt, fieldsOf}
 
@@ -58,6 +58,10 @@ mark scope m (x ∷ xs) = mark scope (if scope x then set m x true else m) xs
 -- all that the fields of marked objects hold
 unfoldable pub heldBy : Heap → Marks → List ℕ
 heldBy h m = gather OBJECTS (λ o. if isMarked m o then fieldsOf h o else [])
+
+-- the objects of p that a list of eight tests points at
+unfoldable pub pointed : ℕ → List Bool → List ℕ
+pointed p tests = gather OWNED (λ k. if getD tests k false then (OWNED * p + k) ∷ [] else [])
 
 -- n rounds, each of which marks what marked objects name
 unfoldable pub rounds : ℕ → Heap → Scope → Marks → Marks

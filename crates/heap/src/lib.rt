@@ -1,6 +1,14 @@
-// What the controllers hold: objects with their fields, and roots. Nothing here counts references.
+// What the controllers hold: objects with their fields, and roots; and what is reached through them. Nothing here counts references.
 ghost use mathlib.Core.Path.{_≡_};
-ghost use Rattle.heap.specs.Heap.{freshHeap};
+ghost use mathlib.Core.Bool.{true};
+ghost use mathlib.Core.List.{[], _∷_, _++_};
+ghost use Prim.Native.Nat.{_-_, _<_};
+ghost use lib.ListN.{getD, set};
+ghost use Rattle.terms.specs.Counted.{every, holds, list, listFrom};
+ghost use Rattle.terms.specs.Limits.{NODES, OBJECTS, FIELDS};
+ghost use Rattle.heap.specs.Heap.{idle, born, freshHeap, objectAt, isLive, fieldAt, rootsAt, rootAt, fieldsOf, rootsOf, withObject, withField, withRoot, freeOwn, fitsName, fitsField, fitsObject, fitsRoots, fitsHeap};
+ghost use Rattle.heap.specs.Visit.{Visited};
+ghost use Rattle.heap.specs.Walk.{ownedBy, everywhere, unmarked, mark, heldBy, pointed, reached};
 
 pub struct Object {
     pub live: bool,
@@ -15,6 +23,11 @@ pub struct Roots {
 pub struct Heap {
     pub objects: [Object; 64],
     pub roots: [Roots; 8],
+}
+
+// For each object, whether it is marked.
+pub struct Marks {
+    pub seen: [bool; 64],
 }
 
 impl Heap {
@@ -36,11 +49,7 @@ impl Heap {
     pub fn fresh() -> Heap
         ensures { λ r. ⌜ r ≡ freshHeap ⌝ }
     {
-        let fields = [Heap::NONE; 4];
-        let object = Object {
-            live: false,
-            fields: fields,
-        };
+        let object = Object::idle();
         let objects = [object; 64];
         let node = Roots {
             at: [Heap::NONE; 8],
@@ -50,5 +59,406 @@ impl Heap {
             objects: objects,
             roots: roots,
         }
+    }
+
+    // Past the last object none is live.
+    pub fn is_live(self, o: u8) -> bool
+        ensures { λ r. ⌜ r ≡ isLive self o ⌝ }
+    {
+        if Heap::OBJECTS <= o {
+            return false;
+        }
+        let i = o as usize;
+        let object = self.objects[i];
+        object.live
+    }
+
+    // 0 where there is no such field.
+    pub fn field(self, o: u8, f: u8) -> u8
+        ensures { λ r. ⌜ r ≡ fieldAt self o f ⌝ }
+    {
+        if Heap::OBJECTS <= o {
+            return 0;
+        }
+        let i = o as usize;
+        let object = self.objects[i];
+        object.field(f)
+    }
+
+    // 0 where there is no such root.
+    pub fn root(self, p: u8, r: u8) -> u8
+        ensures { λ x. ⌜ x ≡ rootAt self p r ⌝ }
+    {
+        if Heap::NODES <= p {
+            return 0;
+        }
+        let i = p as usize;
+        let roots = self.roots[i];
+        roots.root(r)
+    }
+
+    // The heap with object o just made; as it was where there is no such object.
+    pub fn with_born(mut self, o: u8) -> Heap
+        ensures { λ r. ⌜ r ≡ withObject self o born ⌝ }
+    {
+        if Heap::OBJECTS <= o {
+            return self;
+        }
+        let i = o as usize;
+        self.objects[i] = Object::born();
+        self
+    }
+
+    // The heap with object o reclaimed, its fields empty.
+    pub fn with_idle(mut self, o: u8) -> Heap
+        ensures { λ r. ⌜ r ≡ withObject self o idle ⌝ }
+    {
+        if Heap::OBJECTS <= o {
+            return self;
+        }
+        let i = o as usize;
+        self.objects[i] = Object::idle();
+        self
+    }
+
+    pub fn with_field(mut self, o: u8, f: u8, x: u8) -> Heap
+        ensures { λ r. ⌜ r ≡ withField self o f x ⌝ }
+    {
+        if Heap::OBJECTS <= o {
+            return self;
+        }
+        let i = o as usize;
+        let object = self.objects[i];
+        self.objects[i] = object.with_field(f, x);
+        self
+    }
+
+    pub fn with_root(mut self, p: u8, r: u8, x: u8) -> Heap
+        ensures { λ h. ⌜ h ≡ withRoot self p r x ⌝ }
+    {
+        if Heap::NODES <= p {
+            return self;
+        }
+        let i = p as usize;
+        let roots = self.roots[i];
+        self.roots[i] = roots.with_root(r, x);
+        self
+    }
+
+    // The lowest object of the node that isn't live, counted from 0 among its own; as many as it owns where all are live.
+    pub fn free_own(self, p: u8) -> u8
+        ensures { λ r. ⌜ r ≡ freeOwn self p ⌝ }
+    {
+        if Heap::NODES <= p {
+            return 0;
+        }
+        let mut free: u8 = 0;
+        while free < Heap::OWNED {
+            let o = Heap::OWNED * p + free;
+            if !self.is_live(o) {
+                return free;
+            }
+            free += 1;
+        }
+        free
+    }
+
+    fn objects_fit(self) -> bool
+        ensures { λ r. ⌜ r ≡ every OBJECTS (λ o. fitsObject (objectAt self o)) ⌝ }
+    {
+        let mut o: u8 = 0;
+        while o < Heap::OBJECTS {
+            let i = o as usize;
+            let object = self.objects[i];
+            if !object.fits() {
+                return false;
+            }
+            o += 1;
+        }
+        true
+    }
+
+    fn roots_fit(self) -> bool
+        ensures { λ r. ⌜ r ≡ every NODES (λ p. fitsRoots (rootsAt self p)) ⌝ }
+    {
+        let mut p: u8 = 0;
+        while p < Heap::NODES {
+            let i = p as usize;
+            let roots = self.roots[i];
+            if !roots.fits() {
+                return false;
+            }
+            p += 1;
+        }
+        true
+    }
+
+    pub fn fits(self) -> bool
+        ensures { λ r. ⌜ r ≡ fitsHeap self ⌝ }
+    {
+        if !self.objects_fit() {
+            return false;
+        }
+        self.roots_fit()
+    }
+}
+
+// A root or field holds an object number or nothing.
+pub fn fits_name(x: u8) -> bool
+    ensures { λ r. ⌜ r ≡ fitsName x ⌝ }
+{
+    if x < Heap::OBJECTS {
+        return true;
+    }
+    x == Heap::NONE
+}
+
+// A field of an object; of one that isn't live it is empty.
+fn fits_field(live: bool, x: u8) -> bool
+    ensures { λ r. ⌜ r ≡ fitsField live x ⌝ }
+{
+    if live {
+        return fits_name(x);
+    }
+    x == Heap::NONE
+}
+
+impl Object {
+    // Not live, its fields empty.
+    fn idle() -> Object
+        ensures { λ r. ⌜ r ≡ idle ⌝ }
+    {
+        let fields = [Heap::NONE; 4];
+        Object {
+            live: false,
+            fields: fields,
+        }
+    }
+
+    // It has just been made.
+    fn born() -> Object
+        ensures { λ r. ⌜ r ≡ born ⌝ }
+    {
+        let fields = [Heap::NONE; 4];
+        Object {
+            live: true,
+            fields: fields,
+        }
+    }
+
+    fn field(self, f: u8) -> u8
+        ensures { λ r. ⌜ r ≡ getD (self .fields) f 0 ⌝ }
+    {
+        if Heap::FIELDS <= f {
+            return 0;
+        }
+        let i = f as usize;
+        self.fields[i]
+    }
+
+    fn with_field(mut self, f: u8, x: u8) -> Object
+        ensures { λ r. ⌜ r ≡ record { live = self .live; fields = set (self .fields) f x } ⌝ }
+    {
+        if Heap::FIELDS <= f {
+            return self;
+        }
+        let i = f as usize;
+        self.fields[i] = x;
+        self
+    }
+
+    pub fn fits(self) -> bool
+        ensures { λ r. ⌜ r ≡ fitsObject self ⌝ }
+    {
+        let mut f: u8 = 0;
+        while f < Heap::FIELDS {
+            let i = f as usize;
+            let x = self.fields[i];
+            if !fits_field(self.live, x) {
+                return false;
+            }
+            f += 1;
+        }
+        true
+    }
+}
+
+impl Roots {
+    fn root(self, r: u8) -> u8
+        ensures { λ x. ⌜ x ≡ getD (self .at) r 0 ⌝ }
+    {
+        if Heap::ROOTS <= r {
+            return 0;
+        }
+        let i = r as usize;
+        self.at[i]
+    }
+
+    fn with_root(mut self, r: u8, x: u8) -> Roots
+        ensures { λ n. ⌜ n ≡ record { at = set (self .at) r x } ⌝ }
+    {
+        if Heap::ROOTS <= r {
+            return self;
+        }
+        let i = r as usize;
+        self.at[i] = x;
+        self
+    }
+
+    pub fn fits(self) -> bool
+        ensures { λ r. ⌜ r ≡ fitsRoots self ⌝ }
+    {
+        let mut r: u8 = 0;
+        while r < Heap::ROOTS {
+            let i = r as usize;
+            let x = self.at[i];
+            if !fits_name(x) {
+                return false;
+            }
+            r += 1;
+        }
+        true
+    }
+}
+
+impl Marks {
+    fn unmarked() -> Marks
+        ensures { λ r. ⌜ r .seen ≡ unmarked ⌝ }
+    {
+        Marks { seen: [false; 64] }
+    }
+
+    fn with_mark(mut self, x: u8) -> Marks
+        ensures { λ r. ⌜ r .seen ≡ set (self .seen) x true ⌝ }
+    {
+        if Heap::OBJECTS <= x {
+            return self;
+        }
+        let i = x as usize;
+        self.seen[i] = true;
+        self
+    }
+}
+
+// Marks o and what is reached from it, on p only, through objects that aren't marked yet.
+fn visit_object(heap: Heap, p: u8, marks: Marks, o: u8) -> Marks
+    requires { ⌜ p < NODES ⌝ }
+    ensures { λ r. ⌜ Visited heap (ownedBy p) (o ∷ []) (marks .seen) (r .seen) ⌝ }
+{
+    if o / Heap::OWNED != p {
+        return marks;
+    }
+    let i = o as usize;
+    if marks.seen[i] {
+        return marks;
+    }
+    let mut more = marks;
+    more.seen[i] = true;
+    visit_field(heap, p, more, o, 0)
+}
+
+// Marks what is reached so from the fields of o, field f and those after it.
+fn visit_field(heap: Heap, p: u8, marks: Marks, o: u8, f: u8) -> Marks
+    requires { ⌜ p < NODES ⌝ }
+    ensures { λ r. ⌜ Visited heap (ownedBy p) (listFrom f (FIELDS - f) (fieldAt heap o)) (marks .seen) (r .seen) ⌝ }
+{
+    if Heap::FIELDS <= f {
+        return marks;
+    }
+    let x = heap.field(o, f);
+    let more = visit_object(heap, p, marks, x);
+    visit_field(heap, p, more, o, f + 1)
+}
+
+impl Heap {
+    fn visit_roots(self, p: u8) -> Marks
+        requires { ⌜ p < NODES ⌝ }
+        ensures { λ r. ⌜ Visited self (ownedBy p) (rootsOf self p) unmarked (r .seen) ⌝ }
+    {
+        let mut marks = Marks::unmarked();
+        let mut r: u8 = 0;
+        while r < Heap::ROOTS {
+            let x = self.root(p, r);
+            marks = visit_object(self, p, marks, x);
+            r += 1;
+        }
+        marks
+    }
+
+    fn visit_pointed(self, p: u8, marks: Marks, tests: [bool; 8]) -> Marks
+        requires { ⌜ p < NODES ⌝ }
+        ensures { λ r. ⌜ Visited self (ownedBy p) (pointed p tests) (marks .seen) (r .seen) ⌝ }
+    {
+        let mut more = marks;
+        let mut k: u8 = 0;
+        while k < Heap::OWNED {
+            let i = k as usize;
+            if tests[i] {
+                let o = Heap::OWNED * p + k;
+                more = visit_object(self, p, more, o);
+            }
+            k += 1;
+        }
+        more
+    }
+
+    // What is reached, on p only, from its roots and from the objects of its own that `counted` points at.
+    pub fn reached(self, p: u8, counted: [bool; 8]) -> Marks
+        ensures { λ r. ⌜ r .seen ≡ reached self (ownedBy p) (rootsOf self p ++ pointed p counted) ⌝ }
+    {
+        if Heap::NODES <= p {
+            return Marks::unmarked();
+        }
+        let marks = self.visit_roots(p);
+        self.visit_pointed(p, marks, counted)
+    }
+
+    fn mark_roots(self, p: u8) -> Marks
+        ensures { λ r. ⌜ r .seen ≡ mark everywhere unmarked (rootsOf self p) ⌝ }
+    {
+        let mut marks = Marks::unmarked();
+        let mut r: u8 = 0;
+        while r < Heap::ROOTS {
+            let x = self.root(p, r);
+            marks = marks.with_mark(x);
+            r += 1;
+        }
+        marks
+    }
+
+    fn mark_fields(self, marks: Marks, o: u8) -> Marks
+        ensures { λ r. ⌜ r .seen ≡ mark everywhere (marks .seen) (fieldsOf self o) ⌝ }
+    {
+        let mut more = marks;
+        let mut f: u8 = 0;
+        while f < Heap::FIELDS {
+            let x = self.field(o, f);
+            more = more.with_mark(x);
+            f += 1;
+        }
+        more
+    }
+
+    fn mark_held(self, marks: Marks, holders: Marks) -> Marks
+        ensures { λ r. ⌜ r .seen ≡ mark everywhere (marks .seen) (heldBy self (holders .seen)) ⌝ }
+    {
+        let mut more = marks;
+        let mut o: u8 = 0;
+        while o < Heap::OBJECTS {
+            let i = o as usize;
+            if holders.seen[i] {
+                more = self.mark_fields(more, o);
+            }
+            o += 1;
+        }
+        more
+    }
+
+    // For each object, whether a root of p or a marked object holds it.
+    pub fn held(self, p: u8, marks: Marks) -> Marks
+        ensures { λ r. ⌜ r .seen ≡ list OBJECTS (holds (rootsOf self p ++ heldBy self (marks .seen))) ⌝ }
+    {
+        let roots = self.mark_roots(p);
+        self.mark_held(roots, marks)
     }
 }

@@ -1,4 +1,5 @@
 pub mod Depth
+pub mod DepthLaws
 pub mod Formed
 pub mod Shape
 pub mod Table

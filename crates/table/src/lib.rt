@@ -1,4 +1,8 @@
 // The field table by value: the event count, what the controllers hold, who knows of what, and the messages in the air.
+mod access; // access.rt: what stands where, and the table with one thing changed
+mod distance; // distance.rt: how far the owner is along Parent
+mod fits; // fits.rt: the shape that every table must have
+
 use entry::Entry;
 use entry::ReturnCount;
 use entry::Weight;
@@ -47,6 +51,11 @@ pub struct Table {
 pub enum Depth {
     Steps(u8),
     NotReached,
+}
+
+impl Depth {
+    // What the report says where there is no depth.
+    pub const UNREACHED: u8 = 255;
 }
 
 impl Table {

@@ -4,9 +4,10 @@ use mathlib.Core.Path.{_≡_, refl, sym, ap, _∙_}
 use mathlib.Core.Bool.{Bool, true, false, false≢true}
 use mathlib.Core.List.{List, [], _∷_, _++_, append-nil, append-assoc}
 use mathlib.Core.Logic.{_↔_, _⊎_, inl, inr, ⊎-elim}
-use Prim.Native.Nat.{ℕ, zero, suc, _+_, _<_, _≤_}
+use Prim.Native.Nat.{ℕ, zero, suc, _+_, _-_, _<_, _≤_}
 use native.Mathlib.Decide.{ℕ-discrete}
 use native.Mathlib.Nat.{zero-add, add-zero, add-suc, suc-add}
+use native.Mathlib.Numerals.{add-one}
 use native.Mathlib.Omega.{arith}
 use lib.Dec.{eqb}
 use borrow.Author.Tests.{eqb-true, eqb-false}
@@ -81,6 +82,68 @@ list-last n f = listFrom-last 0 n f ∙ rw zero-add
 -- the same of lists gathered
 pub gather-last : {A : Type 0} (n : ℕ) (f : ℕ → List A) → gather (suc n) f ≡ gather n f ++ f n
 gather-last n f = gatherFrom-last 0 n f ∙ rw zero-add
+
+-- ---- the first number taken off
+
+-- the numbers from i on that are below n: i itself and the rest
+module _ {i n : ℕ} (lt : i < n) where
+  rest : n - i ≡ suc (n - (i + 1))
+  rest = omega arith
+
+  module _ (test : ℕ → Bool) where
+    -- where i passes, every one passes where the rest do
+    pub everyFrom-passes : test i ≡ true → everyFrom i (n - i) test ≡ everyFrom (i + 1) (n - (i + 1)) test
+    unfolding everyFrom
+    everyFrom-passes e = rw (rest, add-one, e)
+
+    -- where i fails, not every one passes
+    pub everyFrom-fails : test i ≡ false → everyFrom i (n - i) test ≡ false
+    unfolding everyFrom
+    everyFrom-fails e = rw (rest, e)
+
+    -- where i passes, it is the lowest
+    pub lowestFrom-passes : test i ≡ true → lowestFrom i (n - i) test ≡ i
+    unfolding lowestFrom
+    lowestFrom-passes e = rw (rest, e)
+
+    -- where i fails, the lowest is that of the rest
+    pub lowestFrom-fails : test i ≡ false → lowestFrom i (n - i) test ≡ lowestFrom (i + 1) (n - (i + 1)) test
+    unfolding lowestFrom
+    lowestFrom-fails e = rw (rest, add-one, e)
+
+  -- a list from i on is f i and the list of the rest
+  pub listFrom-first : {A : Type 0} (f : ℕ → A) → listFrom i (n - i) f ≡ f i ∷ listFrom (i + 1) (n - (i + 1)) f
+  unfolding listFrom
+  listFrom-first f = rw (rest, add-one)
+
+  -- lists from i on, one behind the other, are f i and those of the rest
+  pub gatherFrom-first : {A : Type 0} (f : ℕ → List A) → gatherFrom i (n - i) f ≡ f i ++ gatherFrom (i + 1) (n - (i + 1)) f
+  unfolding gatherFrom
+  gatherFrom-first f = rw (rest, add-one)
+
+-- from n on there are none
+none-from : {i n : ℕ} → n ≤ i → n - i ≡ 0
+none-from le = omega arith
+
+-- so every one of them passes
+pub everyFrom-none : {i n : ℕ} → n ≤ i → (test : ℕ → Bool) → everyFrom i (n - i) test ≡ true
+unfolding everyFrom
+everyFrom-none le test = rw (none-from le)
+
+-- the lowest is the one after them
+pub lowestFrom-none : {i n : ℕ} → n ≤ i → (test : ℕ → Bool) → lowestFrom i (n - i) test ≡ i
+unfolding lowestFrom
+lowestFrom-none le test = rw (none-from le)
+
+-- the list is empty
+pub listFrom-none : {A : Type 0} {i n : ℕ} → n ≤ i → (f : ℕ → A) → listFrom i (n - i) f ≡ []
+unfolding listFrom
+listFrom-none le f = rw (none-from le)
+
+-- and nothing is gathered
+pub gatherFrom-none : {A : Type 0} {i n : ℕ} → n ≤ i → (f : ℕ → List A) → gatherFrom i (n - i) f ≡ []
+unfolding gatherFrom
+gatherFrom-none le f = rw (none-from le)
 
 -- ---- every
 

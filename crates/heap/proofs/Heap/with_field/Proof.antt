@@ -1,0 +1,46 @@
+-- `heap::Heap::with_field` meets its contract: past the objects nothing is written. Assumes nothing.
+use mathlib.Core.Path.{_≡_}
+use Prim.Native.Nat.{_≤_}
+use native.Mathlib.Omega.{arith}
+use lib.ListN.{length, length-map}
+use lib.Seq.{set-out}
+use borrow.Author.Needs.{needs}
+use Rattle.terms.specs.Limits.{OBJECTS}
+use Rattle.heap.proofs.Heap.with_field.Statement.{statement}
+use Rattle.heap.proofs.Heap.with_field.Tie as tie
+
+returns : tie.Need-returns
+returns c =
+    let n : length (c .before .args .t1 .objects) ≡ OBJECTS = simp length-map at (c .before .good .0 .1 .1 .0 .1 .0 .1) in
+    let out : length (c .before .args .t1 .objects) ≤ c .before .args .o = omega arith in
+    rw (set-out (c .before .args .t1 .objects) (c .before .args .o))
+
+mul-object : tie.Need-mul-object
+mul-object c = search needs
+
+element-copy-out-object : tie.Need-element-copy-out-object
+element-copy-out-object c = search needs
+
+with-field-requires : tie.Need-with-field-requires
+with-field-requires c κs = search needs
+
+mul-t9 : tie.Need-mul-t9
+mul-t9 c = search needs
+
+element-set-from-self : tie.Need-element-set-from-self
+element-set-from-self c = search needs
+
+returns-2 : tie.Need-returns-2
+returns-2 c = simp (c .with-field .ensures)
+
+pub with-field-spec : {M : Type 1} → statement M
+with-field-spec =
+    tie.close
+    (tie.spec
+    returns
+    mul-object
+    element-copy-out-object
+    with-field-requires
+    mul-t9
+    element-set-from-self
+    returns-2)

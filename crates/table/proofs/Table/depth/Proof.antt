@@ -1,0 +1,31 @@
+-- `table::Table::depth` is the depth in the object's cell; past the last object there is none. Assumes nothing.
+use borrow.Author.Needs.{needs}
+use mathlib.Core.Path.{refl, sym, ap}
+use Rattle.terms.specs.Limits.{STEPS}
+use Rattle.table.specs.declared.Cell.{Cell}
+use Rattle.table.specs.Table.{entryIn}
+use Rattle.table.specs.DepthLaws.{depthBy-absent}
+use Rattle.table.proofs.Arrays.{no-cell}
+use Rattle.table.proofs.Table.depth.Statement.{statement}
+use Rattle.table.proofs.Table.depth.Tie as tie
+
+returns : tie.Need-returns
+returns c =
+    let a = c .before .args in
+    sym (depthBy-absent (a .t1) (a .o) (a .p) STEPS (ap (λ (x : Cell). entryIn x (a .p)) (no-cell (a .t1) (c .before .good .0) (a .o) (c .if1 .taken))))
+
+mul-cell : tie.Need-mul-cell
+mul-cell c = search needs
+
+element-copy-out-cell : tie.Need-element-copy-out-cell
+element-copy-out-cell c = search needs
+
+depth-by-requires : tie.Need-depth-by-requires
+depth-by-requires c κs = search needs
+
+returns-2 : tie.Need-returns-2
+returns-2 c = let a = c .before .before .before .args in c .depth-by .ensures (a .t1) (a .o) refl
+
+pub depth-spec : {M : Type 1} → statement M
+depth-spec =
+    tie.close (tie.spec returns mul-cell element-copy-out-cell depth-by-requires returns-2)
