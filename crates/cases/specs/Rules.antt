@@ -4,11 +4,11 @@ use Rattle.entry.specs.Acts.{directorySent, directoryCameHome, directorySettled
 use Rattle.entry.specs.AtNode.{holderSent, sent, received, settled, mayGo}
 use Rattle.entry.specs.Fits.{fitsDirectory, fitsRemote, fitsEntry}
 use Rattle.heap.specs.Heap.{fitsObject, fitsRoots, fitsHeap}
-use Rattle.heap.specs.Walk.{mark, heldBy, rounds, reached}
+use Rattle.heap.specs.Walk.{mark, heldBy, pointed, rounds, reached}
 use Rattle.table.specs.Depth.{depthBy, depthReport}
 use Rattle.table.specs.Shape.{fitsCell, fitsMessage, fitsTable}
 use Rattle.step.specs.Clear.{clear}
-use Rattle.step.specs.Collect.{countedOn, collectTorn, heapCollected, cellCollected, collectHolding, collectKeeping}
+use Rattle.step.specs.Collect.{counted, collectTorn, heapCollected, cellCollected, collectHolding, collectKeeping}
 use Rattle.step.specs.Drop.{dropOf}
 use Rattle.step.specs.Event.{kindOf, fitsEvent}
 use Rattle.step.specs.Load.{load}
@@ -30,5 +30,5 @@ use Rattle.etzvanul.specs.HostCall.{callWith, callOn, callAfter, called, hostNu
 
 -- its value is of no use; what its line names is what a case opens
 unfoldable pub rules : Type 1
-unfolding everyFrom lowestFrom sumFrom listFrom gatherFrom holds all directorySent directoryCameHome directorySettled remoteSent remoteSentHome remoteReceivedAgain remoteSettled holderSent sent received settled mayGo fitsDirectory fitsRemote fitsEntry fitsObject fitsRoots fitsHeap mark heldBy rounds reached depthBy depthReport fitsCell fitsMessage fitsTable clear countedOn collectTorn heapCollected cellCollected collectHolding collectKeeping dropOf kindOf fitsEvent load move new receiveOf send settleOf ruleFor step store fitsRecord withRecord recordOf readFrom read kindOfCode recordsOf bytesOfAll image writeAnswer writeBytes next summary line lastLine runFrom runText decimal callWith callOn callAfter called hostNumber hostBytes
+unfolding everyFrom lowestFrom sumFrom listFrom gatherFrom holds all directorySent directoryCameHome directorySettled remoteSent remoteSentHome remoteReceivedAgain remoteSettled holderSent sent received settled mayGo fitsDirectory fitsRemote fitsEntry fitsObject fitsRoots fitsHeap mark heldBy pointed rounds reached depthBy depthReport fitsCell fitsMessage fitsTable clear counted collectTorn heapCollected cellCollected collectHolding collectKeeping dropOf kindOf fitsEvent load move new receiveOf send settleOf ruleFor step store fitsRecord withRecord recordOf readFrom read kindOfCode recordsOf bytesOfAll image writeAnswer writeBytes next summary line lastLine runFrom runText decimal callWith callOn callAfter called hostNumber hostBytes
 rules = Type 0

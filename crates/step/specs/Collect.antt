@@ -3,7 +3,7 @@ use mathlib.Core.Bool.{Bool, true, false, not}
 use mathlib.Core.List.{List, [], _∷_, _++_}
 use Prim.Native.Nat.{ℕ, _+_, _*_}
 use Rattle.terms.specs.Choose.{if_then_else_, _when_, _and_, _or_}
-use Rattle.terms.specs.Counted.{all, every, gather, holds, howMany, list}
+use Rattle.terms.specs.Counted.{all, every, holds, howMany, list}
 use Rattle.terms.specs.Limits.{OBJECTS, OWNED}
 use Rattle.terms.specs.Numbers.{TORN}
 use Rattle.entry.specs.Entry.{isClear, isPresent}
@@ -11,20 +11,20 @@ use Rattle.entry.specs.declared.Entry.the-variants.{Absent}
 use Rattle.entry.specs.AtNode.{setUnused}
 use Rattle.heap.specs.declared.Heap.{Heap}
 use Rattle.heap.specs.Heap.{idle, objectAt, isLive, isNone, rootsOf}
-use Rattle.heap.specs.Walk.{Marks, isMarked, ownedBy, heldBy, reached}
+use Rattle.heap.specs.Walk.{Marks, isMarked, ownedBy, pointed, heldBy, reached}
 use Rattle.table.specs.declared.Cell.{Cell}
 use Rattle.table.specs.declared.Table.{Table}
 use Rattle.table.specs.Table.{cellAt, cellWith, entryAt, entryIn, withCells, withHeap}
 use Rattle.step.specs.declared.Deed.the-variants.{Collected}
 use Rattle.step.specs.Outcome.{Rule, did}
 
--- the objects of p whose directory has RC above 0 or MsgCtr not 0
-unfoldable pub countedOn : Table → ℕ → List ℕ
-countedOn t p = gather OWNED (λ k. if isClear (entryAt t p (OWNED * p + k)) then [] else (OWNED * p + k) ∷ [])
+-- for each object of p, whether its directory has RC above 0 or MsgCtr not 0
+unfoldable pub counted : Table → ℕ → List Bool
+counted t p = list OWNED (λ k. not (isClear (entryAt t p (OWNED * p + k))))
 
 -- where the walk starts: p's roots, and those objects
 abbrev pub starts : Table → ℕ → List ℕ
-starts t p = rootsOf (t .heap) p ++ countedOn t p
+starts t p = rootsOf (t .heap) p ++ pointed p (counted t p)
 
 -- the objects of p that are kept: started from or reached, on p only
 abbrev pub kept : Table → ℕ → Marks

@@ -7,6 +7,7 @@ use Rattle.terms.specs.Limits.{NODES, OBJECTS, FIELDS, ROOTS, PLACES}
 use Rattle.step.specs.declared.Event.{Event}
 use Rattle.step.specs.declared.Kind.{Kind}
 use Rattle.step.specs.declared.Kind.the-variants.{New, Move, Clear, Load, Store, Send, Receive, Settle, Collect, Drop, Unknown}
+use Rattle.step.specs.declared.Ranges.{Ranges}
 
 abbrev pub event : ℕ → ℕ → ℕ → ℕ → ℕ → Event
 event k a b c d = record { kind = k; a = a; b = b; c = c; d = d }
@@ -60,12 +61,6 @@ kindOf k =
 -- ---- operands
 
 -- how many values each operand may take, from 0 on
-pub record Ranges : Type 0 where
-  pub a : ℕ
-  pub b : ℕ
-  pub c : ℕ
-  pub d : ℕ
-
 abbrev pub ranges : ℕ → ℕ → ℕ → ℕ → Ranges
 ranges a b c d = record { a = a; b = b; c = c; d = d }
 

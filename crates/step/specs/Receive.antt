@@ -4,14 +4,13 @@ use mathlib.Core.Bool.{Bool, true, false, not}
 use mathlib.Core.List.{List, [], _∷_}
 use Prim.Native.Nat.{ℕ}
 use lib.Dec.{eqb}
-use Rattle.terms.specs.Choose.{if_then_else_, _when_, _and_, _or_}
+use Rattle.terms.specs.Choose.{if_then_else_, _when_, _or_}
 use Rattle.terms.specs.Numbers.{NOMSG, ROOT, TORN}
 use Rattle.entry.specs.declared.Entry.{Entry}
 use Rattle.entry.specs.declared.Entry.the-variants.{Absent, AtOwner, Elsewhere}
 use Rattle.entry.specs.Entry.{none, weight}
 use Rattle.entry.specs.AtNode.{received, refuses}
-use Rattle.heap.specs.Heap.{rootAt, isLive, isNone, withRoot}
-use Rattle.heap.specs.Walk.{ownedBy}
+use Rattle.heap.specs.Heap.{rootAt, isNone, withRoot}
 use Rattle.table.specs.declared.Table.{Table}
 use Rattle.table.specs.declared.Message.{Message}
 use Rattle.table.specs.declared.Message.the-variants.{Empty, Reference, Decrement}
@@ -19,10 +18,11 @@ use Rattle.table.specs.Table.{entryAt, messageAt, withEntry, withHeap, withMess
 use Rattle.step.specs.declared.Deed.{Deed}
 use Rattle.step.specs.declared.Deed.the-variants.{CameHome, Made, Merged, Answered}
 use Rattle.step.specs.Outcome.{Rule, did, refused}
+use Rattle.step.specs.Send.{isDeadOwn}
 
 -- at the owner, the object not live or no directory; or a count would leave its range
 abbrev pub receiveTorn : Table → ℕ → ℕ → ℕ → Bool
-receiveTorn t from to o = (ownedBy to o and not (isLive (t .heap) o)) or refuses (received from to o (entryAt t to o))
+receiveTorn t from to o = isDeadOwn t to o or refuses (received from to o (entryAt t to o))
 
 -- what is left in place s: a decrement to a sender that isn't the Parent, else nothing
 abbrev pub reply : ℕ → ℕ → ℕ → Entry → Message

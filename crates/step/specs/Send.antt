@@ -20,9 +20,13 @@ use Rattle.step.specs.Outcome.{Rule, did}
 abbrev pub isFull : Table → Bool
 isFull t = not (ltb (emptyPlace t) PLACES)
 
+-- an object of p that isn't live
+abbrev pub isDeadOwn : Table → ℕ → ℕ → Bool
+isDeadOwn t p o = ownedBy p o and not (isLive (t .heap) o)
+
 -- own object not live; no entry with Presence true for another's; or a count would leave its range
 abbrev pub sendTorn : Table → ℕ → ℕ → ℕ → Bool
-sendTorn t p q o = (ownedBy p o and not (isLive (t .heap) o)) or refuses (sent p q o (entryAt t p o))
+sendTorn t p q o = isDeadOwn t p o or refuses (sent p q o (entryAt t p o))
 
 -- the sender's entry counts the reference, and the reference is in the air
 abbrev pub withSent : Table → ℕ → ℕ → ℕ → Table

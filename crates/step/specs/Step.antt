@@ -56,13 +56,10 @@ common t e =
 abbrev pub refusalsOf : Table → Event → List Refusal
 refusalsOf t e = common t e ++ ruleOf t e .refusals
 
--- an accepted event adds 1 to the count
-abbrev pub counted : Outcome → Outcome
-counted o =
-    if isAccepted o
-    then record { answer = o .answer; deed = o .deed; table = withCount (o .table) (o .table .count + 1) }
-    else o
+-- an accepted event adds 1 to the count of n events
+abbrev pub oneMore : ℕ → Outcome → Outcome
+oneMore n o = if isAccepted o then record { answer = o .answer; deed = o .deed; table = withCount (o .table) (n + 1) } else o
 
 -- the first refusal that applies, or the effect
 unfoldable pub step : Table → Event → Outcome
-step t e = answered (refused t) (common t e) (counted (by t (ruleOf t e)))
+step t e = answered (refused t) (common t e) (oneMore (t .count) (by t (ruleOf t e)))

@@ -1,6 +1,21 @@
 // One event on a field table. The types that an event and its outcome have; what each event does stands in specs/.
 use table::Table;
 
+mod collect;
+mod deeds;
+mod drop;
+mod fields;
+mod kinds;
+mod new;
+mod outcomes;
+mod receive;
+mod roots;
+mod send;
+mod settle;
+mod steps;
+
+pub use steps::step;
+
 // As it is written in a record: the kind has two bytes, each operand one.
 pub struct Event {
     pub kind: u16,
@@ -22,6 +37,14 @@ pub enum Kind {
     Collect,
     Drop,
     Unknown,
+}
+
+// How many values each operand may take, from 0 on.
+pub struct Ranges {
+    pub a: u8,
+    pub b: u8,
+    pub c: u8,
+    pub d: u8,
 }
 
 // What an event did. Its value and the summary of a run are read from this, and from nothing else.

@@ -6,7 +6,7 @@ use Prim.Native.Nat.{ℕ, _≤_}
 use native.Mathlib.Omega.{arith}
 use mir.Val.{Val}
 use denote.Laws.{Is}
-use lib.ListN.{length, length-map, List·getD-eq-default}
+use lib.ListN.{length, set, length-map, List·getD-eq-default}
 use lib.Seq.{set-out}
 use Rattle.terms.specs.Limits.{NODES, OBJECTS, PLACES}
 use Rattle.entry.specs.declared.Entry.{Entry}
@@ -45,7 +45,7 @@ module _ {vs : List Val} (t : Table) (good : Is table.the-row t vs) where
   pub no-cell : (o : ℕ) → OBJECTS ≤ o → cellAt t o ≡ record { at = [] }
   no-cell o out = List·getD-eq-default (t .cells) _ (omega (arith, cells))
 
-  pub no-cell-set : (o : ℕ) (c : Cell) → OBJECTS ≤ o → withCells t (lib.ListN.set (t .cells) o c) ≡ t
+  pub no-cell-set : (o : ℕ) (c : Cell) → OBJECTS ≤ o → withCells t (set (t .cells) o c) ≡ t
   no-cell-set o c out = let all = cells in rw (set-out (t .cells) o c (omega arith))
 
   pub no-message : (s : ℕ) → PLACES ≤ s → messageAt t s ≡ Empty

@@ -11,10 +11,10 @@ use native.Mathlib.Numerals.{add-one}
 use native.Mathlib.Omega.{arith}
 use lib.Dec.{eqb}
 use borrow.Author.Tests.{eqb-true, eqb-false}
-use lib.ListN.{length, getD, List·getD-append}
-use lib.Seq.{getD-at}
+use lib.ListN.{length, getD, set, length-set, List·getD-append}
+use lib.Seq.{getD-at, ext-getD, getD-set-same, getD-set-other}
 use Rattle.terms.specs.Choose.{if_then_else_, _and_, _or_}
-use Rattle.terms.specs.Counted.{everyFrom, every, lowestFrom, lowest, sumFrom, sum, one, howMany, listFrom, list, gatherFrom, gather, holds}
+use Rattle.terms.specs.Counted.{everyFrom, every, lowestFrom, lowest, sumFrom, sum, one, howMany, listFrom, list, gatherFrom, gather, holds, all}
 
 -- ---- what the laws are said with
 
@@ -278,6 +278,79 @@ list-gather : {A : Type 0} (k n : ℕ) (f : ℕ → A) → listFrom k n f ≡ ga
 unfolding listFrom gatherFrom
 list-gather k zero f = refl
 list-gather k (suc n) f = rw (list-gather (suc k) n f)
+
+-- a list of n whose element k is f k, for each k
+pub list-is : {A : Type 0} (n : ℕ) (f : ℕ → A) (d : A) (xs : List A) → length xs ≡ n → ((k : ℕ) → k < n → getD xs k d ≡ f k) → xs ≡ list n f
+list-is n f d xs len at =
+    ext-getD d xs (list n f) (len ∙ sym (length-list 0 n f)) (λ k lt. at k (omega arith) ∙ sym (getD-list n f k d (omega arith)))
+
+-- ---- a list that is filled in place
+
+-- ys is xs with f 0, f 1, up to below i written over what stood there
+pub record Filled {A : Type 0} (d : A) (f : ℕ → A) (xs : List A) (i : ℕ) (ys : List A) : Type 0 where
+  pub size : length ys ≡ length xs
+  pub below : (k : ℕ) → k < i → getD ys k d ≡ f k
+  pub above : (k : ℕ) → i ≤ k → getD ys k d ≡ getD xs k d
+
+module _ {A : Type 0} {d : A} {f : ℕ → A} {xs : List A} where
+  -- at the start nothing is written
+  pub filled-none : Filled d f xs 0 xs
+  filled-none = record { size = refl; below = λ k lt. absurd (omega arith); above = λ k le. refl }
+
+  module _ {i : ℕ} {ys : List A} (filled : Filled d f xs i ys) where
+    -- f i is written
+    pub filled-set : (v : A) → i < length xs → v ≡ f i → Filled d f xs (i + 1) (set ys i v)
+    filled-set v lt e = record {
+      size = length-set ys i v ∙ filled .size;
+      below = λ k low. elim (ℕ-discrete k i) [
+        | yes q ↦ rw q (getD-set-same ys i v d (omega (arith, filled .size)) ∙ e)
+        | no ne ↦ getD-set-other ys i k v d ne ∙ filled .below k (omega arith)
+      ];
+      above = λ k high. getD-set-other ys i k v d (λ q. absurd (omega arith)) ∙ filled .above k (omega arith);
+    }
+
+    -- what stands there is f i already
+    pub filled-keep : getD xs i d ≡ f i → Filled d f xs (i + 1) ys
+    filled-keep e = record {
+      size = filled .size;
+      below = λ k low. elim (ℕ-discrete k i) [ yes q ↦ rw q (filled .above i (omega arith) ∙ e) | no ne ↦ filled .below k (omega arith) ];
+      above = λ k high. filled .above k (omega arith);
+    }
+
+    -- all is written
+    pub filled-all : (n : ℕ) → length xs ≡ n → n ≤ i → ys ≡ list n f
+    filled-all n len le = list-is n f d ys (filled .size ∙ len) (λ k lt. filled .below k (omega arith))
+
+-- ---- all of a list
+
+-- "and" is a choice
+and-if : (a b : Bool) → (a and b) ≡ (if a then b else false)
+and-if true b = refl
+and-if false b = refl
+
+-- all of two lists, one behind the other, pass where all of each do
+pub all-append : (test : ℕ → Bool) (xs ys : List ℕ) → all test (xs ++ ys) ≡ (all test xs and all test ys)
+unfolding all
+all-append test [] ys = refl
+all-append test (x ∷ xs) ys = go (test x) (all-append test xs ys)
+  where
+    go : (b : Bool) → all test (xs ++ ys) ≡ (all test xs and all test ys)
+        → (if b then all test (xs ++ ys) else false) ≡ ((if b then all test xs else false) and all test ys)
+    go true rest = rest
+    go false rest = refl
+
+-- all of f k, f (k + 1) and so on, n of them, pass where every number does
+pub all-list : (test : ℕ → Bool) (k n : ℕ) (f : ℕ → ℕ) → all test (listFrom k n f) ≡ everyFrom k n (λ i. test (f i))
+unfolding all listFrom everyFrom
+all-list test k zero f = refl
+all-list test k (suc n) f = rw (all-list test (suc k) n f)
+
+-- the same of lists gathered
+pub all-gather : (test : ℕ → Bool) (k n : ℕ) (f : ℕ → List ℕ) → all test (gatherFrom k n f) ≡ everyFrom k n (λ i. all test (f i))
+unfolding all gatherFrom everyFrom
+all-gather test k zero f = refl
+all-gather test k (suc n) f =
+    all-append test (f k) (gatherFrom (suc k) n f) ∙ rw (all-gather test (suc k) n f) (and-if (all test (f k)) (everyFrom (suc k) n (λ i. all test (f i))))
 
 -- ---- what a list holds
 

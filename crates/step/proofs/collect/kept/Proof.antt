@@ -1,0 +1,16 @@
+-- `step::collect::kept` walks from the roots and from what is counted. Assumes nothing.
+use borrow.Author.Needs.{needs}
+use Rattle.step.proofs.collect.kept.Statement.{statement}
+use Rattle.step.proofs.collect.kept.Tie as tie
+
+counted-requires : tie.Need-counted-requires
+counted-requires c κs = search needs
+
+reached-requires : tie.Need-reached-requires
+reached-requires c κs = search needs
+
+returns : tie.Need-returns
+returns c = rw (c .reached .ensures, c .before .before .counted .ensures)
+
+pub kept-spec : {M : Type 1} → statement M
+kept-spec = tie.close (tie.spec counted-requires reached-requires returns)

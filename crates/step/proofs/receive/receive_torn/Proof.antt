@@ -1,0 +1,34 @@
+-- `step::receive::receive_torn` meets its contract: an own object that isn't live, or the act refused. Assumes nothing.
+use mathlib.Core.Path.{sym, _∙_}
+use borrow.Author.Needs.{needs}
+use Rattle.step.proofs.receive.receive_torn.Statement.{statement}
+use Rattle.step.proofs.receive.receive_torn.Tie as tie
+
+is-dead-own-requires : tie.Need-is-dead-own-requires
+is-dead-own-requires c κs = search needs
+
+returns : tie.Need-returns
+returns c = rw (sym (c .before .is-dead-own .ensures) ∙ c .if1 .taken)
+
+entry-at-requires : tie.Need-entry-at-requires
+entry-at-requires c κs = search needs
+
+received-requires : tie.Need-received-requires
+received-requires c κs = search needs
+
+refuses-requires : tie.Need-refuses-requires
+refuses-requires c κs = search needs
+
+returns-2 : tie.Need-returns-2
+returns-2 c = rw (c .refuses .ensures, c .before .received .ensures, c .before .before .entry-at .ensures, sym (c .before .before .before .before .is-dead-own .ensures) ∙ c .before .before .before .if1 .left)
+
+pub receive-torn-spec : {M : Type 1} → statement M
+receive-torn-spec =
+    tie.close
+    (tie.spec
+    is-dead-own-requires
+    returns
+    entry-at-requires
+    received-requires
+    refuses-requires
+    returns-2)
