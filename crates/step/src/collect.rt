@@ -1,8 +1,8 @@
 // COLLECT P: objects of P that nothing starts from or reaches stop being live, and remote entries at P that nothing holds get Presence false.
-use crate::outcomes::did;
-use crate::outcomes::refused;
 use crate::Deed;
 use crate::Outcome;
+use crate::outcomes::did;
+use crate::outcomes::refused;
 use entry::Entry;
 use heap::Heap;
 use heap::Marks;

@@ -1,8 +1,8 @@
 // DROP P o: the entry of o at P is deleted; a remote one sends its MsgCtr and RefWeight to its Parent.
-use crate::outcomes::did;
-use crate::outcomes::refused;
 use crate::Deed;
 use crate::Outcome;
+use crate::outcomes::did;
+use crate::outcomes::refused;
 use entry::Directory;
 use entry::Entry;
 use entry::Remote;

@@ -1,8 +1,8 @@
 // LOAD and STORE: a field of the object in root q, which must be P's own and live.
-use crate::outcomes::did;
-use crate::outcomes::refused;
 use crate::Deed;
 use crate::Outcome;
+use crate::outcomes::did;
+use crate::outcomes::refused;
 use heap::Heap;
 use table::Table;
 ghost use mathlib.Core.Path.{_≡_};

@@ -1,8 +1,8 @@
 // NEW P r: the lowest object of P that isn't live becomes live, and the empty root r names it.
-use crate::outcomes::did;
-use crate::outcomes::refused;
 use crate::Deed;
 use crate::Outcome;
+use crate::outcomes::did;
+use crate::outcomes::refused;
 use heap::Heap;
 use table::Table;
 ghost use mathlib.Core.Path.{_≡_};

@@ -1,9 +1,9 @@
 // RECEIVE s r: the reference in s reaches its node, into the empty root r of that node.
+use crate::Deed;
+use crate::Outcome;
 use crate::outcomes::did;
 use crate::outcomes::refused;
 use crate::send::is_dead_own;
-use crate::Deed;
-use crate::Outcome;
 use entry::Entry;
 use entry::ReturnCount;
 use entry::Weight;

@@ -1,7 +1,7 @@
 // MOVE and CLEAR: what changes roots alone.
-use crate::outcomes::did;
 use crate::Deed;
 use crate::Outcome;
+use crate::outcomes::did;
 use heap::Heap;
 use table::Table;
 ghost use mathlib.Core.Path.{_≡_};

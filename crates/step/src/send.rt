@@ -1,8 +1,8 @@
 // SEND P r Q: the reference in root r goes into the lowest empty place; root r keeps it.
-use crate::outcomes::did;
-use crate::outcomes::refused;
 use crate::Deed;
 use crate::Outcome;
+use crate::outcomes::did;
+use crate::outcomes::refused;
 use heap::Heap;
 use table::Message;
 use table::Table;

@@ -1,8 +1,8 @@
 // SETTLE s: the decrement in s reaches its node.
-use crate::outcomes::did;
-use crate::outcomes::refused;
 use crate::Deed;
 use crate::Outcome;
+use crate::outcomes::did;
+use crate::outcomes::refused;
 use entry::ReturnCount;
 use entry::Weight;
 use table::Message;
@@ -12,16 +12,24 @@ ghost use Rattle.step.specs.Outcome.{by};
 ghost use Rattle.step.specs.Settle.{settle, settleOf};
 ghost use Rattle.table.specs.declared.Message.the-variants.{Decrement};
 
-pub(crate) fn settle_decrement(t: Table, s: u8, from: u8, to: u8, o: u8, m: ReturnCount, n: Weight) -> Outcome
+pub(crate) fn settle_decrement(
+    t: Table,
+    s: u8,
+    from: u8,
+    to: u8,
+    o: u8,
+    m: ReturnCount,
+    n: Weight,
+) -> Outcome
     ensures { λ x. ⌜ x ≡ by t (settleOf t s (Decrement from to o m n)) ⌝ }
 {
     let e = t.entry_at(to, o);
     let act = e.settled(m, n);
+    let receiver = act.entry;
+    let emptied = t.with_message(s, Message::Empty);
     if act.refuses() {
         return refused(t, Outcome::TORN);
     }
-    let receiver = act.entry;
-    let emptied = t.with_message(s, Message::Empty);
     did(Deed::Settled, emptied.with_entry(to, o, receiver))
 }
 

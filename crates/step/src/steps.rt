@@ -1,4 +1,7 @@
 // One step: what any event may be refused for, then the event's own rule, and the count.
+use crate::Event;
+use crate::Kind;
+use crate::Outcome;
 use crate::collect::collect;
 use crate::drop::drop;
 use crate::fields::load;
@@ -10,9 +13,6 @@ use crate::roots::clear_root;
 use crate::roots::move_root;
 use crate::send::send;
 use crate::settle::settle;
-use crate::Event;
-use crate::Kind;
-use crate::Outcome;
 use table::Table;
 ghost use mathlib.Core.Bool.{true};
 ghost use mathlib.Core.Path.{_≡_};

@@ -36,7 +36,7 @@ is-marked-requires c κs = search needs
 
 returns-3 : tie.Need-returns-3
 unfolding cellCollected
-returns-3 c = 
+returns-3 c =
     let s = c .before .before .before in
     let held = sym (marked-held _ _ _ (s .pre .0) (s .pre .1)) ∙ sym (c .before .is-marked .ensures) ∙ c .if3 .taken in
     rw (ne-eqb _ _ (c .before .before .if1 .left), held)
@@ -52,7 +52,7 @@ with-entry-requires-2 c κs = search needs
 
 returns-4 : tie.Need-returns-4
 unfolding cellCollected
-returns-4 c = 
+returns-4 c =
     let s = c .before .before .before .before .before .before in
     let unheld = sym (marked-held _ _ _ (s .pre .0) (s .pre .1)) ∙ sym (c .before .before .before .before .is-marked .ensures) ∙ c .before .before .before .if3 .left in
     rw (c .with-entry2 .ensures, c .before .set-unused .ensures, c .before .before .entry-in .ensures, ne-eqb _ _ (c .before .before .before .before .before .if1 .left), unheld)

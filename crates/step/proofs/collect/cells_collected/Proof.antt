@@ -57,13 +57,13 @@ loop-less : tie.Need-loop-less Inv-loop μ-loop
 loop-less c = omega arith
 
 loop-again : tie.Need-loop-again Inv-loop μ-loop
-loop-again c = 
+loop-again c =
     let l = c .before .before .before in
     let n = cells (l .before .args .t1) (l .before .good .0) in
     (omega arith, filled-set (l .loop .inv .1) _ (omega (arith, n)) (c .cell-collected .ensures), l .loop .inv .2)
 
 returns : tie.Need-returns Inv-loop μ-loop
-returns c = 
+returns c =
     let s = c .before .before in
     let l = c .before .loop in
     let all = filled-all (l .inv .1) OBJECTS (cells (s .args .t1) (s .good .0)) (c .loop-test .left) in

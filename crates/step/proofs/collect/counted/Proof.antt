@@ -52,7 +52,7 @@ loop-less : tie.Need-loop-less Inv-loop μ-loop
 loop-less c = omega arith
 
 loop-again : tie.Need-loop-again Inv-loop μ-loop
-loop-again c = 
+loop-again c =
     let l = c .before .before .before in
     (omega arith, filled-set (l .loop .inv .1) _ (c .before .before .loop-test .taken) (rw (c .is-clear .ensures, c .before .entry-at .ensures)))
 

@@ -59,7 +59,7 @@ loop-less : tie.Need-loop-less Inv-loop μ-loop
 loop-less c = omega arith
 
 loop-again : tie.Need-loop-again Inv-loop μ-loop
-loop-again c = 
+loop-again c =
     let l = c .before .before .before in
     let n = objects-length (l .before .before .args .t) (l .before .before .good .0) in
     ⊎-elim
@@ -69,7 +69,7 @@ loop-again c =
 
 returns : tie.Need-returns Inv-loop μ-loop
 unfolding heapCollected
-returns c = 
+returns c =
     let s = c .before .before .before in
     let l = c .before .loop in
     heap-is (l .h) (filled-all (l .inv .1) OBJECTS (objects-length (s .args .t) (s .good .0)) (c .loop-test .left)) (l .inv .2)

@@ -27,7 +27,7 @@ live-if-marked-requires : tie.Need-live-if-marked-requires Inv-loop μ-loop
 live-if-marked-requires c κs = search needs
 
 returns : tie.Need-returns Inv-loop μ-loop
-returns c = 
+returns c =
     let l = c .before .before .before in
     let fails = sym (c .before .live-if-marked .ensures) ∙ not-true _ (c .if1 .taken) in
     sym (l .loop .inv .1 ∙ everyFrom-fails (c .before .before .loop-test .taken) _ fails)
@@ -39,7 +39,7 @@ loop-less : tie.Need-loop-less Inv-loop μ-loop
 loop-less c = omega arith
 
 loop-again : tie.Need-loop-again Inv-loop μ-loop
-loop-again c = 
+loop-again c =
     let l = c .before .before .before in
     let passes = sym (c .before .live-if-marked .ensures) ∙ not-false _ (c .if1 .left) in
     (omega arith, l .loop .inv .1 ∙ everyFrom-passes (c .before .before .loop-test .taken) _ passes)

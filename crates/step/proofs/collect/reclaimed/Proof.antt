@@ -35,7 +35,7 @@ loop-less : tie.Need-loop-less Inv-loop μ-loop
 loop-less c = omega arith
 
 loop-again : tie.Need-loop-again Inv-loop μ-loop
-loop-again c = 
+loop-again c =
     let l = c .before .before .before in
     let a = l .before .args in
     let test = isReclaimed (a .t) (a .p) (a .marks .seen) in
@@ -48,7 +48,7 @@ loop-again c =
     (c .if1 .came)
 
 returns : tie.Need-returns Inv-loop μ-loop
-returns c = 
+returns c =
     let all : c .before .loop .o ≡ OBJECTS = omega arith in
     rw all at (c .before .loop .inv .2)
 

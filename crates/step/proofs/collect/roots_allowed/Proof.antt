@@ -29,7 +29,7 @@ may-hold-requires : tie.Need-may-hold-requires Inv-loop μ-loop
 may-hold-requires c κs = search needs
 
 returns : tie.Need-returns Inv-loop μ-loop
-returns c = 
+returns c =
     let l = c .before .before .before .before in
     let fails = rw (c .before .before .root .ensures) at (sym (c .before .may-hold .ensures) ∙ not-true _ (c .if1 .taken)) in
     sym (l .loop .inv .1 ∙ everyFrom-fails (c .before .before .before .loop-test .taken) _ fails)
@@ -41,7 +41,7 @@ loop-less : tie.Need-loop-less Inv-loop μ-loop
 loop-less c = omega arith
 
 loop-again : tie.Need-loop-again Inv-loop μ-loop
-loop-again c = 
+loop-again c =
     let l = c .before .before .before .before in
     let passes = rw (c .before .before .root .ensures) at (sym (c .before .may-hold .ensures) ∙ not-false _ (c .if1 .left)) in
     (omega arith, l .loop .inv .1 ∙ everyFrom-passes (c .before .before .before .loop-test .taken) _ passes)

@@ -14,15 +14,15 @@ use Rattle.heap.specs.Reached.{left, left-le, left-set}
 use Rattle.heap.specs.Visit.{visited-none, visited-outside, visited-again, visited-then, visited-enter}
 use borrow.Fn.Kinds.{In}
 use borrow.Fn.PlainCycle.{Measures, is, falls, and}
-use Rattle.heap.proofs.visit_field.Reads as visit-field
-use Rattle.heap.proofs.visit_field.Kinds as visit-field-kinds
-use Rattle.heap.proofs.+visit_field+visit_object.Lts-visit_field as visit-field-lts
-use Rattle.heap.proofs.visit_object.Reads as visit-object
-use Rattle.heap.proofs.visit_object.Kinds as visit-object-kinds
-use Rattle.heap.proofs.+visit_field+visit_object.Lts-visit_object as visit-object-lts
+use Rattle.heap.proofs.walk.visit_field.Reads as visit-field
+use Rattle.heap.proofs.walk.visit_field.Kinds as visit-field-kinds
+use Rattle.heap.proofs.walk.+visit_field+visit_object.Lts-visit_field as visit-field-lts
+use Rattle.heap.proofs.walk.visit_object.Reads as visit-object
+use Rattle.heap.proofs.walk.visit_object.Kinds as visit-object-kinds
+use Rattle.heap.proofs.walk.+visit_field+visit_object.Lts-visit_object as visit-object-lts
 use Rattle.heap.proofs.Heap.field.Reads as field-reads
-use Rattle.heap.proofs.+visit_field+visit_object.{statement}
-use Rattle.heap.proofs.+visit_field+visit_object.Tie.{close}
+use Rattle.heap.proofs.walk.+visit_field+visit_object.{statement}
+use Rattle.heap.proofs.walk.+visit_field+visit_object.Tie.{close}
 
 -- an object of node p has a number that every object list has
 within : (p o : ℕ) → p < NODES → owner o ≡ p → Within (ownedBy p) o
