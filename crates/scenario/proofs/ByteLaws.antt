@@ -1,0 +1,73 @@
+-- The readers of a line, one byte further: what the definitions say of the bytes from place i on, by the byte that stands there. Assumes nothing.
+use mathlib.Core.Path.{_≡_, refl, sym, ap, _∙_}
+use mathlib.Core.Bool.{true, false}
+use mathlib.Core.List.{List, [], _∷_}
+use Prim.Native.Nat.{ℕ, _+_, _-_, _*_, _<_, _≤_}
+use native.Mathlib.Numerals.{add-one}
+use native.Mathlib.Omega.{arith}
+use borrow.Author.Tests.{le-leb, lt-leb, eq-eqb, ne-eqb}
+use lib.ListN.{length, getD, take, drop, drop-of-length-le}
+use lib.Seq.{drop-cons}
+use Rattle.scenario.specs.declared.numbers.Read.{Read}
+use Rattle.scenario.specs.Line.{ZERO, RETURN, isBlank, isDigit, skipped, Number, none, found, digits, withoutReturn}
+use Rattle.scenario.specs.Number.{meant, valueOf}
+
+module _ (l : List ℕ) (i : ℕ) where
+  -- past the end there is nothing
+  pub none-left : length l ≤ i → drop i l ≡ []
+  none-left le = drop-of-length-le l le
+
+  module _ (lt : i < length l) where
+    -- the byte at i stands at the front
+    pub front : drop i l ≡ getD l i 0 ∷ drop (i + 1) l
+    front = rw (add-one, drop-cons l i 0)
+
+    -- a blank is skipped
+    pub skipped-blank : isBlank (getD l i 0) ≡ true → skipped (drop i l) ≡ skipped (drop (i + 1) l)
+    unfolding skipped
+    skipped-blank e = rw (front, e)
+
+    -- anything else stays
+    pub skipped-other : isBlank (getD l i 0) ≡ false → skipped (drop i l) ≡ drop i l
+    unfolding skipped
+    skipped-other e = rw (front, e)
+
+    module _ (limit n : ℕ) where
+      -- a digit more
+      pub digits-more : isDigit (getD l i 0) ≡ true → 10 * n + (getD l i 0 - ZERO) ≤ limit
+          → digits limit n (drop i l) ≡ digits limit (10 * n + (getD l i 0 - ZERO)) (drop (i + 1) l)
+      unfolding digits
+      digits-more e le = rw (front, e, le-leb (10 * n + (getD l i 0 - ZERO)) limit le)
+
+      -- a digit that makes it too great
+      pub digits-over : isDigit (getD l i 0) ≡ true → limit < 10 * n + (getD l i 0 - ZERO) → digits limit n (drop i l) ≡ none
+      unfolding digits
+      digits-over e lt = rw (front, e, lt-leb (10 * n + (getD l i 0 - ZERO)) limit lt)
+
+      -- the number ends
+      pub digits-end : isDigit (getD l i 0) ≡ false → digits limit n (drop i l) ≡ found n (drop i l)
+      unfolding digits
+      digits-end e = rw (front, e)
+
+-- ---- what a reader gave, once its variant is known
+
+pub told : (l : List ℕ) {r r′ : Read} {n : Number} → meant l r ≡ n → r ≡ r′ → n ≡ meant l r′
+told l e f = sym e ∙ ap (meant l) f
+
+pub bounded : {r r′ : Read} {n : ℕ} → valueOf r ≤ n → r ≡ r′ → valueOf r′ ≤ n
+bounded le e = rw e at le
+
+-- ---- the carriage return
+
+pub return-none : (l : List ℕ) → length l ≡ 0 → withoutReturn l ≡ l
+unfolding withoutReturn
+return-none [] e = refl
+return-none (b ∷ l) e = absurd (omega arith)
+
+pub return-last : (l : List ℕ) → getD l (length l - 1) 0 ≡ RETURN → withoutReturn l ≡ take (length l - 1) l
+unfolding withoutReturn
+return-last l e = simp (eq-eqb _ _ e)
+
+pub return-other : (l : List ℕ) → (getD l (length l - 1) 0 ≡ RETURN → ⊥) → withoutReturn l ≡ l
+unfolding withoutReturn
+return-other l e = simp (ne-eqb _ _ e)

@@ -1,0 +1,104 @@
+-- `scenario::check` meets its contract. The invariant: the first bad line is the first from line `number` on, at `at`, and the events are
+-- those counted and those from there on. Assumes nothing.
+use mathlib.Core.Path.{_≡_, refl, sym, _∙_}
+use Prim.Native.Nat.{_+_, _-_, _≤_}
+use native.Mathlib.Omega.{arith}
+use borrow.Author.Needs.{needs}
+use lib.ListN.{length, drop}
+use Rattle.scenario.specs.Text.{linesOf, firstBad, eventsOf}
+use Rattle.scenario.proofs.ByteLaws.{none-left}
+use Rattle.scenario.proofs.LineLaws.{first-bad, first-good, first-count, one-event}
+use Rattle.scenario.proofs.check.Statement.{statement}
+use Rattle.scenario.proofs.check.Tie as tie
+
+abbrev Inv-loop : tie.InvT-loop
+Inv-loop text number₀ events₀ at₀ number events at =
+    (1 ≤ number)
+    × (number ≤ at + 1)
+    × (events ≤ at)
+    × (firstBad 1 (linesOf text) ≡ firstBad number (linesOf (drop at text)))
+    × (length (eventsOf (linesOf text)) ≡ events + length (eventsOf (linesOf (drop at text))))
+
+abbrev μ-loop : tie.MeasureT-loop
+μ-loop text number₀ events₀ at₀ number events at = length text - at
+
+loop-holds : tie.Need-loop-holds Inv-loop μ-loop
+loop-holds c = (omega arith, omega arith, omega arith, refl, omega arith)
+
+line-end-requires : tie.Need-line-end-requires Inv-loop μ-loop
+line-end-requires c κs = search needs
+
+sub-read-line : tie.Need-sub-read-line Inv-loop μ-loop
+sub-read-line c = omega arith
+
+part-read-line-start : tie.Need-part-read-line-start Inv-loop μ-loop
+part-read-line-start c = omega arith
+
+part-read-line-end : tie.Need-part-read-line-end Inv-loop μ-loop
+part-read-line-end c = omega arith
+
+read-line-requires : tie.Need-read-line-requires Inv-loop μ-loop
+read-line-requires c κs = search needs
+
+is-bad-requires : tie.Need-is-bad-requires Inv-loop μ-loop
+is-bad-requires c κs = search needs
+
+returns : tie.Need-returns Inv-loop μ-loop
+returns c =
+    let r = c .before .before in
+    let h = r .before .before .before .before in
+    let bad = first-bad (r .before .before .line-end .ensures .lines) (r .read-line .ensures) (h .loop .number) (sym (c .before .is-bad .ensures) ∙ c .if1 .taken) in
+    record { line = sym (h .loop .inv .3 ∙ bad); count = λ none. absurd (omega arith) }
+
+events-requires : tie.Need-events-requires Inv-loop μ-loop
+events-requires c κs = search needs
+
+add-events : tie.Need-add-events Inv-loop μ-loop
+add-events c = omega (arith, one-event (c .before .before .before .read-line .result))
+
+add-number : tie.Need-add-number Inv-loop μ-loop
+add-number c = omega arith
+
+add-at : tie.Need-add-at Inv-loop μ-loop
+add-at c = omega arith
+
+loop-less : tie.Need-loop-less Inv-loop μ-loop
+loop-less c = omega arith
+
+loop-again : tie.Need-loop-again Inv-loop μ-loop
+loop-again c =
+    let r = c .before .before .before in
+    let h = r .before .before .before .before in
+    let good = first-good (r .before .before .line-end .ensures .lines) (r .read-line .ensures) (h .loop .number) (sym (c .before .before .is-bad .ensures) ∙ c .before .if1 .left) in
+    let more = first-count (r .before .before .line-end .ensures .lines) (r .read-line .ensures) in
+    let one = one-event (r .read-line .result) in
+    (omega arith, omega arith, omega arith, h .loop .inv .3 ∙ good, omega (arith, more, h .loop .inv .4, c .events .ensures))
+
+returns-2 : tie.Need-returns-2 Inv-loop μ-loop
+unfolding linesOf firstBad eventsOf
+returns-2 c =
+    let h = c .before in
+    let none = none-left (h .before .before .args .text .now) (h .loop .at) (c .loop-test .left) in
+    record { line = sym (h .loop .inv .3 ∙ rw none); count = λ z. sym (h .loop .inv .4 ∙ rw none (omega arith)) }
+
+pub check-spec : {M : Type 1} → statement M
+check-spec =
+    tie.close
+    (tie.spec
+    Inv-loop
+    μ-loop
+    loop-holds
+    line-end-requires
+    sub-read-line
+    part-read-line-start
+    part-read-line-end
+    read-line-requires
+    is-bad-requires
+    returns
+    events-requires
+    add-events
+    add-number
+    add-at
+    loop-less
+    loop-again
+    returns-2)
