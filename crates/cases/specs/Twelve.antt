@@ -17,7 +17,9 @@ use Rattle.step.specs.Event.{event, NEW, CLEAR, SEND, RECEIVE, SETTLE, COLLECT,
 use Rattle.step.specs.EventRecord.{OPERANDS, recordWidths}
 use Rattle.step.specs.Outcome.{valueOf}
 use Rattle.step.specs.Step.{step}
-use Rattle.run.specs.Run.{Progress, Summary, after, beginning, runText, summary}
+use Rattle.run.specs.declared.Progress.{Progress}
+use Rattle.run.specs.declared.Summary.{Summary}
+use Rattle.run.specs.Run.{after, beginning, runText, summary}
 use Rattle.run.specs.Text.{ascii}
 use Rattle.cases.specs.Rules.{rules}
 

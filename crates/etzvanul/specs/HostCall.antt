@@ -5,6 +5,7 @@ use mathlib.Core.List.{List, [], _∷_}
 use Prim.Native.Nat.{ℕ, _+_, _*_}
 use lib.Dec.{eqb, ltb}
 use lib.ListN.{length}
+use Rattle.terms.specs.Bytes.{over}
 use Rattle.terms.specs.Choose.{Refusal, _when_, answered}
 use Rattle.terms.specs.Numbers.{ACCEPTED, EVENT, ROOM}
 use Rattle.step.specs.declared.Outcome.{Outcome}
@@ -12,7 +13,7 @@ use Rattle.step.specs.Outcome.{valueOf}
 use Rattle.step.specs.Step.{step}
 use Rattle.image.specs.declared.Loaded.{Loaded}
 use Rattle.image.specs.Reader.{read}
-use Rattle.image.specs.Writer.{image, over}
+use Rattle.image.specs.Writer.{image}
 use Rattle.step.specs.EventRecord.{eventIn, isRecord}
 
 -- one number: answer + 256 times value + 16,777,216 times the new image's length

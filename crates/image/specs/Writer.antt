@@ -4,7 +4,7 @@ use mathlib.Core.Bool.{Bool, true, false, not}
 use mathlib.Core.List.{List, [], _∷_, _++_}
 use Prim.Native.Nat.{ℕ}
 use lib.Dec.{ltb}
-use lib.ListN.{length, drop}
+use lib.ListN.{length}
 use Rattle.terms.specs.Choose.{Refusal, _when_, if_then_else_, answered}
 use Rattle.terms.specs.Counted.{gather, one}
 use Rattle.terms.specs.Limits.{NODES, OBJECTS, PLACES, owner}
@@ -18,7 +18,7 @@ use Rattle.table.specs.declared.Table.{Table}
 use Rattle.table.specs.Shape.{fitsTable}
 use Rattle.table.specs.Table.{entryAt, messageAt}
 use Rattle.image.specs.declared.RecordKind.the-variants.{Count, Live, NodeRoots, Directory, Remote, Reference, Decrement, End}
-use Rattle.terms.specs.Bytes.{twosComplement}
+use Rattle.terms.specs.Bytes.{over, twosComplement}
 use Rattle.image.specs.Records.{Record, row, recordBytes}
 
 -- ---- the record of each thing, or none
@@ -71,10 +71,6 @@ image t = bytesOfAll (recordsOf t)
 -- why nothing is written
 abbrev pub writeRefusals : Table → List ℕ → List Refusal
 writeRefusals t out = (SHAPE when not (fitsTable t)) ∷ (ROOM when ltb (length out) (length (image t))) ∷ []
-
--- bytes at the front of a buffer; what stood past them stays
-abbrev pub over : List ℕ → List ℕ → List ℕ
-over front out = front ++ drop (length front) out
 
 unfoldable pub writeAnswer : Table → List ℕ → ℕ
 writeAnswer t out = answered (λ number. number) (writeRefusals t out) ACCEPTED

@@ -1,8 +1,8 @@
 -- Text as bytes: ASCII, and numbers in decimal (document 01, "One run in full"). Definitions only; assumes nothing.
-use mathlib.Core.Bool.{Bool, true, false}
+use mathlib.Core.Bool.{true, false}
 use mathlib.Core.List.{List, [], _∷_, _++_}
 use Prim.Native.Nat.{ℕ, zero, suc, _+_, _/_, _%_}
-use Prim.Native.Char.{Char, code}
+use Prim.Native.Char.{code}
 use Prim.Native.String as string
 use lib.Dec.{ltb}
 use Rattle.terms.specs.Choose.{if_then_else_}
@@ -32,3 +32,8 @@ newline = 10 ∷ []
 -- a space
 abbrev pub space : List ℕ
 space = 32 ∷ []
+
+-- texts one behind the other
+abbrev pub joined : List (List ℕ) → List ℕ
+joined [] = []
+joined (text ∷ texts) = text ++ joined texts

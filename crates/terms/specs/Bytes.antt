@@ -4,7 +4,7 @@ use mathlib.Core.List.{List, [], _∷_, _++_}
 use Prim.Native.Nat.{ℕ, zero, suc, _+_, _-_, _*_, _/_, _%_}
 use lib.Dec.{ltb}
 use lib.IntN.{ℤ, pos, negsuc}
-use lib.ListN.{take, drop}
+use lib.ListN.{length, take, drop}
 use Rattle.terms.specs.Choose.{if_then_else_}
 
 -- a number in so many bytes
@@ -36,3 +36,7 @@ twosComplement (negsuc n) = 4294967295 - n
 -- and back
 abbrev pub signed : ℕ → ℤ
 signed n = if ltb n 2147483648 then pos n else negsuc (4294967295 - n)
+
+-- bytes at the front of a buffer; what stood past them stays
+abbrev pub over : List ℕ → List ℕ → List ℕ
+over front out = front ++ drop (length front) out

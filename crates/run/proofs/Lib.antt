@@ -1,0 +1,6 @@
+pub mod Counting
+pub mod Decimal
+pub mod Fronts
+pub mod Lengths
+pub mod Telling
+pub mod Written

@@ -1,0 +1,70 @@
+-- `run::counts::messages` counts the messages in the air. Assumes nothing.
+use mathlib.Core.Path.{ap, _∙_}
+use mathlib.Core.Bool.{Bool, not}
+use Prim.Native.Nat.{ℕ, _-_}
+use native.Mathlib.Omega.{arith}
+use borrow.Author.Needs.{needs}
+use Rattle.terms.specs.Counted.{one}
+use Rattle.terms.specs.Limits.{PLACES}
+use Rattle.table.specs.declared.Table.{Table}
+use Rattle.table.specs.Table.{isEmpty, messageAt}
+use Rattle.run.proofs.Counting.{Summed, one-most, summed-all, summed-more, summed-none, summed-small}
+use Rattle.run.proofs.counts.messages.Statement.{statement}
+use Rattle.run.proofs.counts.messages.Tie as tie
+
+-- a place has a message
+abbrev holds : Table → ℕ → Bool
+holds t s = not (isEmpty (messageAt t s))
+
+abbrev Inv-loop : tie.InvT-loop
+Inv-loop t n₀ s₀ n s = Summed PLACES (λ k. one (holds t k)) s n
+
+abbrev μ-loop : tie.MeasureT-loop
+μ-loop t n₀ s₀ n s = PLACES - s
+
+loop-holds : tie.Need-loop-holds Inv-loop μ-loop
+loop-holds c = summed-none PLACES _
+
+message-at-requires : tie.Need-message-at-requires Inv-loop μ-loop
+message-at-requires c κs = search needs
+
+is-empty-requires : tie.Need-is-empty-requires Inv-loop μ-loop
+is-empty-requires c κs = search needs
+
+one-if-requires : tie.Need-one-if-requires Inv-loop μ-loop
+one-if-requires c κs = search needs
+
+add-n : tie.Need-add-n Inv-loop μ-loop
+add-n c =
+    let h = c .before .before .before .before in
+    omega (arith, summed-small PLACES _ 1 (λ k. one-most (holds (h .before .args .t) k)) (h .loop .inv) (c .one-if .ensures ∙ ap (λ (b : Bool). one (not b)) (c .before .is-empty .ensures ∙ ap isEmpty (c .before .before .message-at .ensures))), h .loop .inv .0)
+
+add-s : tie.Need-add-s Inv-loop μ-loop
+add-s c = omega arith
+
+loop-less : tie.Need-loop-less Inv-loop μ-loop
+loop-less c = omega arith
+
+loop-again : tie.Need-loop-again Inv-loop μ-loop
+loop-again c =
+    let h = c .before .before .before .before in
+    summed-more PLACES _ (h .loop .inv) (omega arith) (c .one-if .ensures ∙ ap (λ (b : Bool). one (not b)) (c .before .is-empty .ensures ∙ ap isEmpty (c .before .before .message-at .ensures)))
+
+returns : tie.Need-returns Inv-loop μ-loop
+returns c = summed-all PLACES _ (c .before .loop .inv) (c .loop-test .left)
+
+pub messages-spec : {M : Type 1} → statement M
+messages-spec =
+    tie.close
+    (tie.spec
+    Inv-loop
+    μ-loop
+    loop-holds
+    message-at-requires
+    is-empty-requires
+    one-if-requires
+    add-n
+    add-s
+    loop-less
+    loop-again
+    returns)

@@ -1,0 +1,41 @@
+-- `run::run` refuses a buffer that is too short for some run, and tells the run in any other. Assumes nothing.
+use mathlib.Core.Path.{_∙_}
+use borrow.Author.Tests.{lt-ltb, le-ltb}
+use lib.ListN.{length}
+use Rattle.run.specs.Ran.{TEXT, ran, runBytes}
+use Rattle.run.proofs.Written.{wrote-over}
+use borrow.Author.Needs.{needs}
+use Rattle.run.proofs.run.Statement.{statement}
+use Rattle.run.proofs.run.Tie as tie
+
+beginning-requires : tie.Need-beginning-requires
+beginning-requires c κs = search needs
+
+summary-requires : tie.Need-summary-requires
+summary-requires c κs = search needs
+
+returns : tie.Need-returns
+unfolding ran runBytes
+returns c =
+    let out = c .before .before .before .before .before .args .out .now in
+    let short = lt-ltb (length out) TEXT (c .before .before .if1 .taken) in
+    (simp (short, c .summary .ensures, c .before .beginning .ensures), simp short)
+
+tell-requires : tie.Need-tell-requires
+tell-requires c κs = search needs
+
+same-length : tie.Need-same-length
+same-length c = search needs
+
+returns-2 : tie.Need-returns-2
+unfolding ran runBytes
+returns-2 c =
+    let t = c .before .before in
+    let e = t .before .before in
+    let long = le-ltb (length (e .before .before .before .args .out .now)) TEXT (e .if1 .left) in
+    (t .tell .ensures .0 ∙ simp long, wrote-over (t .tell .ensures .1) ∙ simp long)
+
+pub run-spec : {M : Type 1} → statement M
+run-spec =
+    tie.close
+    (tie.spec beginning-requires summary-requires returns tell-requires same-length returns-2)
