@@ -11,5 +11,6 @@ pub mod RoundTrip
 pub mod Sizes
 pub mod Spots
 pub mod Stages
+pub mod Things
 pub mod Unique
 pub mod Writer
