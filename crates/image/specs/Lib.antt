@@ -11,6 +11,5 @@ pub mod RoundTrip
 pub mod Sizes
 pub mod Spots
 pub mod Stages
-pub mod Things
 pub mod Unique
 pub mod Writer

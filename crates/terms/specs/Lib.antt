@@ -1,4 +1,3 @@
-pub mod BufferLaws
 pub mod Bytes
 pub mod Choose
 pub mod Counted
