@@ -1,5 +1,16 @@
+pub mod BytesLaws
+pub mod CellLaws
 pub mod Content
+pub mod ContentLaws
+pub mod Keeps
 pub mod Order
+pub mod ReadLaws
 pub mod Reader
 pub mod Records
+pub mod RoundTrip
+pub mod Sizes
+pub mod Spots
+pub mod Stages
+pub mod Things
+pub mod Unique
 pub mod Writer

@@ -77,7 +77,7 @@ widthsOf Decrement = 1 ∷ 1 ∷ 1 ∷ 1 ∷ 4 ∷ 4 ∷ []
 widthsOf End = []
 widthsOf Unknown = []
 
-abbrev total : List ℕ → ℕ
+abbrev pub total : List ℕ → ℕ
 total [] = 0
 total (w ∷ ws) = w + total ws
 

@@ -4,9 +4,9 @@ use mathlib.Core.Path.{_≡_, refl, sym, ap, _∙_}
 use mathlib.Core.Bool.{Bool, true, false, false≢true}
 use mathlib.Core.List.{List, [], _∷_, _++_, append-nil, append-assoc}
 use mathlib.Core.Logic.{_↔_, _⊎_, inl, inr, ⊎-elim}
-use Prim.Native.Nat.{ℕ, zero, suc, _+_, _-_, _<_, _≤_}
+use Prim.Native.Nat.{ℕ, zero, suc, _+_, _-_, _*_, _<_, _≤_}
 use native.Mathlib.Decide.{ℕ-discrete}
-use native.Mathlib.Nat.{zero-add, add-zero, add-suc, suc-add}
+use native.Mathlib.Nat.{zero-add, add-zero, add-suc, suc-add, add-comm, zero-mul, suc-mul}
 use native.Mathlib.Numerals.{add-one}
 use native.Mathlib.Omega.{arith}
 use lib.Dec.{eqb}
@@ -283,6 +283,41 @@ list-gather k (suc n) f = rw (list-gather (suc k) n f)
 pub list-is : {A : Type 0} (n : ℕ) (f : ℕ → A) (d : A) (xs : List A) → length xs ≡ n → ((k : ℕ) → k < n → getD xs k d ≡ f k) → xs ≡ list n f
 list-is n f d xs len at =
     ext-getD d xs (list n f) (len ∙ sym (length-list 0 n f)) (λ k lt. at k (omega arith) ∙ sym (getD-list n f k d (omega arith)))
+
+-- ---- lists gathered
+
+-- the first m and the n after them
+pub gather-split : {A : Type 0} (k m n : ℕ) (f : ℕ → List A) → gatherFrom k (m + n) f ≡ gatherFrom k m f ++ gatherFrom (k + m) n f
+unfolding gatherFrom
+gather-split k zero n f = rw (zero-add, add-zero)
+gather-split k (suc m) n f = rw (suc-add m n, gather-split (suc k) m n f, suc-add k m, add-suc k m, append-assoc)
+
+-- the same lists from another number on
+pub gather-same : {A : Type 0} (k j n : ℕ) (f g : ℕ → List A) → ((i : ℕ) → i < n → f (k + i) ≡ g (j + i)) → gatherFrom k n f ≡ gatherFrom j n g
+unfolding gatherFrom
+gather-same k j zero f g same = refl
+gather-same k j (suc n) f g same =
+    let first : f k ≡ g j = rw (add-zero k, add-zero j) at (same 0 (omega arith)) in
+    let rest : gatherFrom (suc k) n f ≡ gatherFrom (suc j) n g =
+    gather-same (suc k) (suc j) n f g (λ i lt. rw (suc-add k i, suc-add j i, ← add-suc k i, ← add-suc j i) (same (suc i) (omega arith))) in
+    rw (first, rest)
+
+-- n at a time, m times
+pub gather-rows : {A : Type 0} (k j m n : ℕ) (f : ℕ → List A) (g : ℕ → ℕ → List A)
+    → ((p o : ℕ) → p < m → o < n → f (k + (p * n + o)) ≡ g (j + p) o) → gatherFrom k (m * n) f ≡ gatherFrom j m (λ p. gather n (g p))
+unfolding gatherFrom
+gather-rows k j zero n f g same = rw (zero-mul n)
+gather-rows k j (suc m) n f g same =
+    let first : gatherFrom k n f ≡ gatherFrom 0 n (g j) =
+    gather-same k 0 n f (g j) (λ o lt.
+    let there : k + (0 * n + o) ≡ k + o = ap (λ (x : ℕ). k + x) (rw (zero-mul n) (zero-add o)) in
+    ap f (sym there) ∙ same 0 o (omega arith) lt ∙ rw (add-zero j, zero-add o)) in
+    let rest : gatherFrom (k + n) (m * n) f ≡ gatherFrom (suc j) m (λ p. gather n (g p)) =
+    gather-rows (k + n) (suc j) m n f g
+    (λ p o low lt.
+    let there : k + n + (p * n + o) ≡ k + (suc p * n + o) = rw (suc-mul p n) (omega arith) in
+    rw (there, suc-add j p, ← add-suc j p) (same (suc p) o (omega arith) lt)) in
+    rw (suc-mul m n, add-comm (m * n) n, gather-split k n (m * n) f, first, rest)
 
 -- ---- a list that is filled in place
 

@@ -1,3 +1,4 @@
+pub mod BufferLaws
 pub mod Bytes
 pub mod Choose
 pub mod Counted

@@ -1,0 +1,71 @@
+-- `image::passes::put` writes the bytes. The loop's invariant: what is done so far stands in the buffer. Assumes nothing.
+use mathlib.Core.Path.{_≡_, refl, _∙_}
+use Prim.Native.Nat.{_-_, _≤_}
+use native.Mathlib.Omega.{arith}
+use lib.ListN.{length, take, length-set}
+use lib.Seq.{sets, take-length}
+use Rattle.terms.specs.BufferLaws.{sets-more}
+use Rattle.image.proofs.passes.put.Statement.{statement}
+use Rattle.image.proofs.passes.put.Tie as tie
+
+abbrev Inv-loop : tie.InvT-loop
+Inv-loop out₀ at text done₀ out done = (done ≤ length text) × (length out ≡ length out₀) × (out ≡ sets out₀ at (take done text))
+
+abbrev μ-loop : tie.MeasureT-loop
+μ-loop out₀ at text done₀ out done = length text - done
+
+loop-holds : tie.Need-loop-holds Inv-loop μ-loop
+loop-holds c = (omega arith, refl, refl)
+
+shared-slice-read-out : tie.Need-shared-slice-read-out Inv-loop μ-loop
+shared-slice-read-out c = omega arith
+
+add-out : tie.Need-add-out Inv-loop μ-loop
+add-out c = omega arith
+
+slice-write-out : tie.Need-slice-write-out Inv-loop μ-loop
+slice-write-out c = omega arith
+
+add-done : tie.Need-add-done Inv-loop μ-loop
+add-done c = omega arith
+
+loop-less : tie.Need-loop-less Inv-loop μ-loop
+loop-less c = omega arith
+
+loop-again : tie.Need-loop-again Inv-loop μ-loop
+loop-again c =
+    let h = c .before .before in
+    let a = h .before .args in (
+      omega arith,
+      simp length-set (h .loop .inv .1),
+      rw (h .loop .inv .2) (sets-more (a .out .now) (a .at) (a .text .now) (h .loop .done) (omega arith)),
+    )
+
+add-result : tie.Need-add-result Inv-loop μ-loop
+add-result c = omega arith
+
+same-length : tie.Need-same-length Inv-loop μ-loop
+same-length c = c .before .loop .inv .1
+
+returns : tie.Need-returns Inv-loop μ-loop
+returns c =
+    let h = c .before in
+    let all : h .loop .done ≡ length (h .before .args .text .now) = omega arith in
+    (rw all, h .loop .inv .2 ∙ rw (all, take-length))
+
+pub put-spec : {M : Type 1} → statement M
+put-spec =
+    tie.close
+    (tie.spec
+    Inv-loop
+    μ-loop
+    loop-holds
+    shared-slice-read-out
+    add-out
+    slice-write-out
+    add-done
+    loop-less
+    loop-again
+    add-result
+    same-length
+    returns)

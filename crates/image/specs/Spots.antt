@@ -1,0 +1,443 @@
+-- What a table holds at each spot that a record is about: a record read puts itself there and leaves all other spots as they were.
+-- Assumes nothing.
+use mathlib.Core.Path.{_≡_, refl, sym, ap, subst, _∙_}
+use mathlib.Core.Bool.{Bool, true, false, false≢true}
+use mathlib.Core.List.{List, [], _∷_}
+use Prim.Native.Nat.{ℕ, zero, suc, _+_, _*_, _/_, _%_, _^_, _≤_, _<_}
+use native.Mathlib.Decide.{ℕ-discrete}
+use native.Mathlib.Omega.{arith}
+use lib.Dec.{ltb, leb, eqb}
+use lib.ListN.{length, getD}
+use lib.Seq.{getD-set-same, getD-set-other}
+use borrow.Author.Tests.{ltb-true, leb-true, eq-eqb}
+use Rattle.terms.specs.Bytes.{twosComplement, signed}
+use Rattle.terms.specs.Choose.{if_then_else_, _and_}
+use Rattle.terms.specs.Counted.{listFrom, list, one}
+use Rattle.terms.specs.CountedLaws.{and-passes}
+use Rattle.terms.specs.Limits.{NODES, OBJECTS, PLACES, owner}
+use Rattle.entry.specs.declared.Entry.{Entry}
+use Rattle.entry.specs.declared.Entry.the-variants.{Absent, AtOwner, Elsewhere}
+use Rattle.entry.specs.Fits.{fitsEntry}
+use Rattle.heap.specs.declared.Object.{Object}
+use Rattle.heap.specs.declared.Roots.{Roots}
+use Rattle.heap.specs.Heap.{fitsObject, fitsRoots}
+use Rattle.table.specs.declared.Cell.{Cell}
+use Rattle.table.specs.declared.Slot.{Slot}
+use Rattle.table.specs.declared.Place.{Place}
+use Rattle.table.specs.declared.Message.the-variants as m
+use Rattle.table.specs.declared.Table.{Table}
+use Rattle.table.specs.Formed.{Formed}
+use Rattle.table.specs.Shape.{fitsMessage}
+use Rattle.table.specs.Table.{cellAt, cellWith, entryIn, entryAt, messageAt, withEntry}
+use Rattle.image.specs.declared.RecordKind.{RecordKind}
+use Rattle.image.specs.declared.RecordKind.the-variants.{Count, Live, NodeRoots, Directory, Remote, Reference, Decrement, End, Unknown}
+use Rattle.image.specs.BytesLaws.{Fit, twosComplement-signed}
+use Rattle.image.specs.Content.{number, liveObject, rootsOfNode, directoryEntry, remoteEntry, referenceMessage, decrementMessage, fitsRecord, withRecord}
+use Rattle.image.specs.ContentLaws.{Shaped, list-back, remote-away}
+use Rattle.image.specs.Order.{position, positionOf}
+use Rattle.image.specs.Records.{Record, row, isUnknown, isEnd, widthsOf}
+use Rattle.image.specs.Writer.{objectRecord, rootsRecord, directoryRecord, remoteRecord, messageRecord}
+
+pub data Spot : Type 0 where
+  count : Spot
+  object : ℕ → Spot
+  roots : ℕ → Spot
+  directory : ℕ → Spot
+  remote : ℕ → ℕ → Spot
+  message : ℕ → Spot
+
+-- the spot that a record is about
+abbrev pub spotOf : RecordKind → List ℕ → Spot
+spotOf Count ns = count
+spotOf Live ns = object (number ns 0)
+spotOf NodeRoots ns = roots (number ns 0)
+spotOf Directory ns = directory (number ns 0)
+spotOf Remote ns = remote (number ns 0) (number ns 1)
+spotOf Reference ns = message (number ns 0)
+spotOf Decrement ns = message (number ns 0)
+spotOf End ns = count
+spotOf Unknown ns = count
+
+-- its position
+abbrev pub spotPosition : Spot → ℕ
+spotPosition count = position 0 0
+spotPosition (object o) = position 1 o
+spotPosition (roots p) = position 2 p
+spotPosition (directory o) = position 3 o
+spotPosition (remote p o) = position 4 (256 * p + o)
+spotPosition (message s) = position 5 s
+
+-- the record that the table has there, or none
+abbrev pub recordAt : Table → Spot → List Record
+recordAt t count = row Count (t .count ∷ []) ∷ []
+recordAt t (object o) = objectRecord t o
+recordAt t (roots p) = rootsRecord t p
+recordAt t (directory o) = directoryRecord o (entryAt t (owner o) o)
+recordAt t (remote p o) = remoteRecord p o (entryAt t p o)
+recordAt t (message s) = messageRecord s (messageAt t s)
+
+-- ---- the spot at a position
+
+spotFrom : ℕ → ℕ → Spot
+spotFrom zero key = count
+spotFrom (suc zero) key = object key
+spotFrom (suc (suc zero)) key = roots key
+spotFrom (suc (suc (suc zero))) key = directory key
+spotFrom (suc (suc (suc (suc zero)))) key = remote (key / 256) (key % 256)
+spotFrom (suc (suc (suc (suc (suc n))))) key = message key
+
+pub fit-length : (ws ns : List ℕ) → Fit ws ns → length ns ≡ length ws
+fit-length [] [] fit = refl
+fit-length [] (n ∷ ns) fit = absurd fit
+fit-length (w ∷ ws) [] fit = absurd fit
+fit-length (w ∷ ws) (n ∷ ns) fit = ap suc (fit-length ws ns (fit .1))
+
+-- the first number of a record that fits is below its limit
+first-small : (k : RecordKind) (ns : List ℕ) → isEnd k ≡ false → isUnknown k ≡ false → fitsRecord k ns ≡ true → (k ≡ Count → ⊥) → number ns 0 < 64
+unfolding fitsRecord
+first-small Count ns e u fits nc = absurd (nc refl)
+first-small Live ns e u fits nc = ltb-true (number ns 0) OBJECTS (and-passes (ltb (number ns 0) OBJECTS) (fitsObject (liveObject ns)) .0 fits .0)
+first-small NodeRoots ns e u fits nc = omega (arith, ltb-true (number ns 0) NODES (and-passes (ltb (number ns 0) NODES) (fitsRoots (rootsOfNode ns)) .0 fits .0))
+first-small Directory ns e u fits nc =
+    ltb-true (number ns 0) OBJECTS (and-passes (ltb (number ns 0) OBJECTS) (fitsEntry (owner (number ns 0)) (number ns 0) (directoryEntry ns)) .0 fits .0)
+first-small Remote ns e u fits nc =
+    omega (
+      arith,
+      ltb-true (number ns 0) NODES (and-passes (ltb (number ns 0) NODES)
+          (ltb (number ns 1) OBJECTS and leb (number ns 4) 1 and fitsEntry (number ns 0) (number ns 1) (remoteEntry ns)) .0 fits .0),
+    )
+first-small Reference ns e u fits nc = ltb-true (number ns 0) PLACES (and-passes (ltb (number ns 0) PLACES) (fitsMessage (referenceMessage ns)) .0 fits .0)
+first-small Decrement ns e u fits nc = ltb-true (number ns 0) PLACES (and-passes (ltb (number ns 0) PLACES) (fitsMessage (decrementMessage ns)) .0 fits .0)
+first-small End ns e u fits nc = absurd (false≢true (sym e))
+first-small Unknown ns e u fits nc = absurd (false≢true (sym u))
+
+-- the parts of the test of a remote record
+pub record RemoteTests (ns : List ℕ) : Type 0 where
+  pub node : number ns 0 < 8
+  pub object : number ns 1 < 64
+  pub presence : number ns 4 ≤ 1
+  pub entry : fitsEntry (number ns 0) (number ns 1) (remoteEntry ns) ≡ true
+
+pub remote-tests : (ns : List ℕ) → fitsRecord Remote ns ≡ true → RemoteTests ns
+unfolding fitsRecord
+remote-tests ns fits =
+    let a = and-passes (ltb (number ns 0) NODES) (ltb (number ns 1) OBJECTS and leb (number ns 4) 1 and fitsEntry (number ns 0) (number ns 1) (remoteEntry ns)) .0 fits in
+    let b = and-passes (ltb (number ns 1) OBJECTS) (leb (number ns 4) 1 and fitsEntry (number ns 0) (number ns 1) (remoteEntry ns)) .0 (a .1) in
+    let c = and-passes (leb (number ns 4) 1) (fitsEntry (number ns 0) (number ns 1) (remoteEntry ns)) .0 (b .1) in
+    record {
+      node = ltb-true (number ns 0) NODES (a .0);
+      object = ltb-true (number ns 1) OBJECTS (b .0);
+      presence = leb-true (number ns 4) 1 (c .0);
+      entry = c .1;
+    }
+
+-- ---- entries
+
+module _ (t : Table) (formed : Formed t) (p o : ℕ) (e : Entry) (lo : o < OBJECTS) where
+  -- another entry stays
+  pub entry-other : (q a : ℕ) → (a ≡ o → q ≡ p → ⊥) → entryAt (withEntry t p o e) q a ≡ entryAt t q a
+  entry-other q a ne = elim (ℕ-discrete a o) [
+    | yes ea ↦ rw (ea, getD-set-same (t .cells) o (cellWith (cellAt t o) p e) (record { at = [] }) (omega (arith, formed .cells)))
+        (ap (λ (s : Slot). s .held) (getD-set-other (cellAt t o .at) p q (record { held = e }) (record { held = Absent }) (ne ea)))
+    | no na ↦ ap (λ (c : Cell). entryIn c q) (getD-set-other (t .cells) o a (cellWith (cellAt t o) p e) (record { at = [] }) na)
+  ]
+
+  -- the entry is there
+  pub entry-same : p < NODES → entryAt (withEntry t p o e) p o ≡ e
+  entry-same lp =
+      rw (getD-set-same (t .cells) o (cellWith (cellAt t o) p e) (record { at = [] }) (omega (arith, formed .cells)))
+      (ap (λ (s : Slot). s .held) (getD-set-same (cellAt t o .at) p (record { held = e }) (record { held = Absent }) (omega (arith, formed .entries o lo))))
+
+-- no remote entry stands at the owner
+remote-none : (p o : ℕ) (e : Entry) → p ≡ owner o → fitsEntry p o e ≡ true → remoteRecord p o e ≡ []
+remote-none p o Absent at fits = refl
+remote-none p o (AtOwner d) at fits = refl
+remote-none p o (Elsewhere r) at fits = absurd (false≢true (rw (eq-eqb p (owner o) at) at (remote-away r p o fits)))
+
+-- the record of an object as it stands
+abbrev pub objectRow : ℕ → Object → List Record
+objectRow o x =
+    if x .live then row Live (o ∷ getD (x .fields) 0 0 ∷ getD (x .fields) 1 0 ∷ getD (x .fields) 2 0 ∷ getD (x .fields) 3 0 ∷ []) ∷ [] else []
+
+-- the record of a node's roots as they stand
+abbrev rootsRow : ℕ → Roots → List Record
+rootsRow p x =
+    row NodeRoots (p ∷ getD (x .at) 0 0 ∷ getD (x .at) 1 0 ∷ getD (x .at) 2 0 ∷ getD (x .at) 3 0 ∷ getD (x .at) 4 0 ∷ getD (x .at) 5 0 ∷ getD (x .at) 6 0 ∷ getD (x .at) 7 0 ∷ []) ∷ []
+
+-- the record of a place as it stands
+abbrev placeRow : ℕ → Place → List Record
+placeRow s x = messageRecord s (x .held)
+
+-- a record that the reader takes: not the end, of a known kind, its numbers fitting and allowed
+pub record Takes (k : RecordKind) (ns : List ℕ) : Type 0 where
+  pub onward : isEnd k ≡ false
+  pub known : isUnknown k ≡ false
+  pub fit : Fit (widthsOf k) ns
+  pub allowed : fitsRecord k ns ≡ true
+
+-- ---- a record read leaves the other spots as they were
+
+module _ (t : Table) (formed : Formed t) (shape : Shaped t) (ns : List ℕ) where
+  other-count : (s : Spot) → (spotPosition s ≡ positionOf Count ns → ⊥) → recordAt (withRecord t Count ns) s ≡ recordAt t s
+  unfolding withRecord
+  other-count count ne = absurd (ne refl)
+  other-count (object o) ne = refl
+  other-count (roots p) ne = refl
+  other-count (directory o) ne = refl
+  other-count (remote p o) ne = refl
+  other-count (message s) ne = refl
+
+  other-live : (s : Spot) → (spotPosition s ≡ positionOf Live ns → ⊥) → recordAt (withRecord t Live ns) s ≡ recordAt t s
+  unfolding withRecord
+  other-live count ne = refl
+  other-live (object o) ne =
+      ap (objectRow o) (getD-set-other (t .heap .objects) (number ns 0) o (liveObject ns) (record { live = false; fields = [] }) (λ q. ne (omega arith)))
+  other-live (roots p) ne = refl
+  other-live (directory o) ne = refl
+  other-live (remote p o) ne = refl
+  other-live (message s) ne = refl
+
+  other-roots : (s : Spot) → (spotPosition s ≡ positionOf NodeRoots ns → ⊥) → recordAt (withRecord t NodeRoots ns) s ≡ recordAt t s
+  unfolding withRecord
+  other-roots count ne = refl
+  other-roots (object o) ne = refl
+  other-roots (roots p) ne =
+      ap (rootsRow p) (getD-set-other (t .heap .roots) (number ns 0) p (rootsOfNode ns) (record { at = [] }) (λ q. ne (omega arith)))
+  other-roots (directory o) ne = refl
+  other-roots (remote p o) ne = refl
+  other-roots (message s) ne = refl
+
+  other-directory : number ns 0 < OBJECTS → (s : Spot) → (spotPosition s ≡ positionOf Directory ns → ⊥) → recordAt (withRecord t Directory ns) s ≡ recordAt t s
+  unfolding withRecord
+  other-directory lt count ne = refl
+  other-directory lt (object o) ne = refl
+  other-directory lt (roots p) ne = refl
+  other-directory lt (directory o) ne =
+      ap (directoryRecord o) (entry-other t formed (owner (number ns 0)) (number ns 0) (directoryEntry ns) lt (owner o) o (λ eo ep. ne (omega arith)))
+  other-directory lt (remote p o) ne = elim (ℕ-discrete o (number ns 0)) [
+    | yes eo ↦ rw eo (elim (ℕ-discrete p (owner (number ns 0))) [
+      | yes ep ↦ rw ep (ap (remoteRecord (owner a) a) (entry-same t formed (owner a) a (directoryEntry ns) lt (omega arith))
+          ∙ sym (remote-none (owner a) a (entryAt t (owner a) a) refl (shape .entries (owner a) a (omega arith) lt)))
+      | no np ↦ ap (remoteRecord p a) (entry-other t formed (owner a) a (directoryEntry ns) lt p a (λ ea ep. np ep))
+    ])
+    | no no′ ↦ ap (remoteRecord p o) (entry-other t formed (owner a) a (directoryEntry ns) lt p o (λ eo ep. no′ eo))
+  ]
+    where
+      a : ℕ
+      a = number ns 0
+  other-directory lt (message s) ne = refl
+
+  other-remote : RemoteTests ns → (s : Spot) → (spotPosition s ≡ positionOf Remote ns → ⊥) → recordAt (withRecord t Remote ns) s ≡ recordAt t s
+  unfolding withRecord
+  other-remote tests count ne = refl
+  other-remote tests (object o) ne = refl
+  other-remote tests (roots p) ne = refl
+  other-remote tests (directory o) ne =
+      ap (directoryRecord o) (entry-other t formed (number ns 0) (number ns 1) (remoteEntry ns) (tests .object) (owner o) o
+      (λ eo ep. false≢true (rw (eq-eqb (number ns 0) (owner (number ns 1)) (sym ep ∙ ap owner eo)) at (remote-away _ (number ns 0) (number ns 1) (tests .entry)))))
+  other-remote tests (remote p o) ne =
+      ap (remoteRecord p o) (entry-other t formed (number ns 0) (number ns 1) (remoteEntry ns) (tests .object) p o (λ eo ep. ne (omega arith)))
+  other-remote tests (message s) ne = refl
+
+  other-reference : (s : Spot) → (spotPosition s ≡ positionOf Reference ns → ⊥) → recordAt (withRecord t Reference ns) s ≡ recordAt t s
+  unfolding withRecord
+  other-reference count ne = refl
+  other-reference (object o) ne = refl
+  other-reference (roots p) ne = refl
+  other-reference (directory o) ne = refl
+  other-reference (remote p o) ne = refl
+  other-reference (message s) ne =
+      ap (placeRow s) (getD-set-other (t .air) (number ns 0) s (record { held = referenceMessage ns }) (record { held = m.Empty }) (λ q. ne (omega arith)))
+
+  other-decrement : (s : Spot) → (spotPosition s ≡ positionOf Decrement ns → ⊥) → recordAt (withRecord t Decrement ns) s ≡ recordAt t s
+  unfolding withRecord
+  other-decrement count ne = refl
+  other-decrement (object o) ne = refl
+  other-decrement (roots p) ne = refl
+  other-decrement (directory o) ne = refl
+  other-decrement (remote p o) ne = refl
+  other-decrement (message s) ne =
+      ap (placeRow s) (getD-set-other (t .air) (number ns 0) s (record { held = decrementMessage ns }) (record { held = m.Empty }) (λ q. ne (omega arith)))
+
+-- the record is the event count's
+abbrev pub isCount : RecordKind → Bool
+isCount Count = true
+isCount Live = false
+isCount NodeRoots = false
+isCount Directory = false
+isCount Remote = false
+isCount Reference = false
+isCount Decrement = false
+isCount End = false
+isCount Unknown = false
+
+-- the first number of any other is below 64
+pub small : (k : RecordKind) (ns : List ℕ) → Takes k ns → isCount k ≡ false → number ns 0 < 64
+small k ns takes nc = first-small k ns (takes .onward) (takes .known) (takes .allowed) (λ e. false≢true (sym nc ∙ ap isCount e))
+
+pub spot-other : (t : Table) → Formed t → Shaped t → (k : RecordKind) (ns : List ℕ) → Takes k ns
+    → (s : Spot) → (spotPosition s ≡ positionOf k ns → ⊥) → recordAt (withRecord t k ns) s ≡ recordAt t s
+spot-other t formed shape Count ns takes = other-count t formed shape ns
+spot-other t formed shape Live ns takes = other-live t formed shape ns
+spot-other t formed shape NodeRoots ns takes = other-roots t formed shape ns
+spot-other t formed shape Directory ns takes = other-directory t formed shape ns (small Directory ns takes refl)
+spot-other t formed shape Remote ns takes = other-remote t formed shape ns (remote-tests ns (takes .allowed))
+spot-other t formed shape Reference ns takes = other-reference t formed shape ns
+spot-other t formed shape Decrement ns takes = other-decrement t formed shape ns
+spot-other t formed shape End ns takes = absurd (false≢true (sym (takes .onward)))
+spot-other t formed shape Unknown ns takes = absurd (false≢true (sym (takes .known)))
+
+-- ---- a record read stands at its spot
+
+-- numbers that fit are so many
+unfolded : (k : RecordKind) (ns : List ℕ) (n : ℕ) → Fit (widthsOf k) ns → length (widthsOf k) ≡ n → list n (λ i. getD ns i 0) ≡ ns
+unfolded k ns n fit len = list-back 0 n ns (fit-length (widthsOf k) ns fit ∙ len)
+
+-- a number of four bytes fits them
+nth : (ws ns : List ℕ) (i : ℕ) → Fit ws ns → getD ws i 0 ≡ 4 → getD ns i 0 < 256 ^ 4
+nth [] [] i fit w = absurd (omega arith)
+nth [] (n ∷ ns) i fit w = absurd fit
+nth (w ∷ ws) [] i fit is = absurd fit
+nth (w ∷ ws) (n ∷ ns) zero fit is = rw is at (fit .0)
+nth (w ∷ ws) (n ∷ ns) (suc i) fit is = nth ws ns i (fit .1) is
+
+nth-fits : (k : RecordKind) (ns : List ℕ) (i : ℕ) → Fit (widthsOf k) ns → getD (widthsOf k) i 0 ≡ 4 → number ns i < 256 ^ 4
+nth-fits k ns i fit is = nth (widthsOf k) ns i fit is
+
+presence-back : (n : ℕ) → n ≤ 1 → one (eqb n 1) ≡ n
+presence-back zero le = refl
+presence-back (suc zero) le = refl
+presence-back (suc (suc n)) le = absurd (omega arith)
+
+module _ (t : Table) (formed : Formed t) where
+  abbrev Stands : RecordKind → List ℕ → Type 0
+  Stands k ns = recordAt (withRecord t k ns) (spotOf k ns) ≡ row k ns ∷ []
+
+  here-count : (a : ℕ) → Stands Count (a ∷ [])
+  unfolding withRecord
+  here-count a = refl
+
+  here-live : (a b c d e : ℕ) → a < OBJECTS → Stands Live (a ∷ b ∷ c ∷ d ∷ e ∷ [])
+  unfolding withRecord
+  here-live a b c d e lt =
+      ap (objectRow a) (getD-set-same (t .heap .objects) a (liveObject (a ∷ b ∷ c ∷ d ∷ e ∷ [])) (record { live = false; fields = [] }) (omega (arith, formed .objects)))
+
+  here-roots : (a b c d e f g h i : ℕ) → a < NODES → Stands NodeRoots (a ∷ b ∷ c ∷ d ∷ e ∷ f ∷ g ∷ h ∷ i ∷ [])
+  unfolding withRecord
+  here-roots a b c d e f g h i lt =
+      ap (rootsRow a) (getD-set-same (t .heap .roots) a (rootsOfNode (a ∷ b ∷ c ∷ d ∷ e ∷ f ∷ g ∷ h ∷ i ∷ [])) (record { at = [] }) (omega (arith, formed .nodes)))
+
+  here-directory : (a b c : ℕ) → a < OBJECTS → c < 256 ^ 4 → Stands Directory (a ∷ b ∷ c ∷ [])
+  unfolding withRecord
+  here-directory a b c lt fit =
+      ap (directoryRecord a) (entry-same t formed (owner a) a (directoryEntry (a ∷ b ∷ c ∷ [])) lt (omega arith))
+      ∙ ap (λ (n : ℕ). row Directory (a ∷ b ∷ n ∷ []) ∷ []) (twosComplement-signed c fit)
+
+  here-remote : (a b c d e f g : ℕ) → a < NODES → b < OBJECTS → e ≤ 1 → f < 256 ^ 4 → Stands Remote (a ∷ b ∷ c ∷ d ∷ e ∷ f ∷ g ∷ [])
+  unfolding withRecord
+  here-remote a b c d e f g la lb le fit =
+      ap (remoteRecord a b) (entry-same t formed a b (remoteEntry (a ∷ b ∷ c ∷ d ∷ e ∷ f ∷ g ∷ [])) lb la)
+      ∙ ap (λ (n : ℕ). row Remote (a ∷ b ∷ c ∷ d ∷ n ∷ twosComplement (signed f) ∷ g ∷ []) ∷ []) (presence-back e le)
+      ∙ ap (λ (n : ℕ). row Remote (a ∷ b ∷ c ∷ d ∷ e ∷ n ∷ g ∷ []) ∷ []) (twosComplement-signed f fit)
+
+  here-reference : (a b c d : ℕ) → a < PLACES → Stands Reference (a ∷ b ∷ c ∷ d ∷ [])
+  unfolding withRecord
+  here-reference a b c d lt =
+      ap (placeRow a) (getD-set-same (t .air) a (record { held = referenceMessage (a ∷ b ∷ c ∷ d ∷ []) }) (record { held = m.Empty }) (omega (arith, formed .places)))
+
+  here-decrement : (a b c d e f : ℕ) → a < PLACES → e < 256 ^ 4 → Stands Decrement (a ∷ b ∷ c ∷ d ∷ e ∷ f ∷ [])
+  unfolding withRecord
+  here-decrement a b c d e f lt fit =
+      ap (placeRow a) (getD-set-same (t .air) a (record { held = decrementMessage (a ∷ b ∷ c ∷ d ∷ e ∷ f ∷ []) }) (record { held = m.Empty }) (omega (arith, formed .places)))
+      ∙ ap (λ (n : ℕ). row Decrement (a ∷ b ∷ c ∷ d ∷ n ∷ f ∷ []) ∷ []) (twosComplement-signed e fit)
+
+  pub spot-same : (k : RecordKind) (ns : List ℕ) → Takes k ns → Stands k ns
+  unfolding listFrom fitsRecord
+  spot-same Count ns takes = subst (Stands Count) (unfolded Count ns 1 (takes .fit) refl) (here-count (number ns 0))
+  spot-same Live ns takes =
+      subst (Stands Live) (unfolded Live ns 5 (takes .fit) refl)
+      (here-live (number ns 0) (number ns 1) (number ns 2) (number ns 3) (number ns 4)
+      (ltb-true (number ns 0) OBJECTS (and-passes (ltb (number ns 0) OBJECTS) (fitsObject (liveObject ns)) .0 (takes .allowed) .0)))
+  spot-same NodeRoots ns takes =
+      subst (Stands NodeRoots) (unfolded NodeRoots ns 9 (takes .fit) refl)
+      (here-roots (number ns 0) (number ns 1) (number ns 2) (number ns 3) (number ns 4) (number ns 5) (number ns 6) (number ns 7) (number ns 8)
+      (ltb-true (number ns 0) NODES (and-passes (ltb (number ns 0) NODES) (fitsRoots (rootsOfNode ns)) .0 (takes .allowed) .0)))
+  spot-same Directory ns takes =
+      subst (Stands Directory) (unfolded Directory ns 3 (takes .fit) refl)
+      (here-directory (number ns 0) (number ns 1) (number ns 2) (small Directory ns takes refl) (nth-fits Directory ns 2 (takes .fit) refl))
+  spot-same Remote ns takes =
+      let tests = remote-tests ns (takes .allowed) in
+      subst (Stands Remote) (unfolded Remote ns 7 (takes .fit) refl)
+      (here-remote (number ns 0) (number ns 1) (number ns 2) (number ns 3) (number ns 4) (number ns 5) (number ns 6)
+      (tests .node) (tests .object) (tests .presence) (nth-fits Remote ns 5 (takes .fit) refl))
+  spot-same Reference ns takes =
+      subst (Stands Reference) (unfolded Reference ns 4 (takes .fit) refl)
+      (here-reference (number ns 0) (number ns 1) (number ns 2) (number ns 3)
+      (ltb-true (number ns 0) PLACES (and-passes (ltb (number ns 0) PLACES) (fitsMessage (referenceMessage ns)) .0 (takes .allowed) .0)))
+  spot-same Decrement ns takes =
+      subst (Stands Decrement) (unfolded Decrement ns 6 (takes .fit) refl)
+      (here-decrement (number ns 0) (number ns 1) (number ns 2) (number ns 3) (number ns 4) (number ns 5)
+      (ltb-true (number ns 0) PLACES (and-passes (ltb (number ns 0) PLACES) (fitsMessage (decrementMessage ns)) .0 (takes .allowed) .0))
+      (nth-fits Decrement ns 4 (takes .fit) refl))
+  spot-same End ns takes = absurd (false≢true (sym (takes .onward)))
+  spot-same Unknown ns takes = absurd (false≢true (sym (takes .known)))
+
+-- ---- one spot at a position
+
+-- a record's position is that of its spot
+pub position-spot : (k : RecordKind) (ns : List ℕ) → Takes k ns → spotPosition (spotOf k ns) ≡ positionOf k ns
+position-spot Count ns takes = refl
+position-spot Live ns takes = refl
+position-spot NodeRoots ns takes = refl
+position-spot Directory ns takes = refl
+position-spot Remote ns takes = refl
+position-spot Reference ns takes = refl
+position-spot Decrement ns takes = refl
+position-spot End ns takes = absurd (false≢true (sym (takes .onward)))
+position-spot Unknown ns takes = absurd (false≢true (sym (takes .known)))
+
+section-back : (s key : ℕ) → key < 65536 → (65536 * s + key) / 65536 ≡ s
+section-back s key lt = omega arith
+
+key-back : (s key : ℕ) → key < 65536 → (65536 * s + key) % 65536 ≡ key
+key-back s key lt = omega arith
+
+spot-back : (k : RecordKind) (ns : List ℕ) → Takes k ns → spotFrom (positionOf k ns / 65536) (positionOf k ns % 65536) ≡ spotOf k ns
+unfolding spotFrom
+spot-back Count ns takes = refl
+spot-back Live ns takes = let lt = small Live ns takes refl in rw (section-back 1 (number ns 0) (omega arith), key-back 1 (number ns 0) (omega arith))
+spot-back NodeRoots ns takes = let lt = small NodeRoots ns takes refl in rw (section-back 2 (number ns 0) (omega arith), key-back 2 (number ns 0) (omega arith))
+spot-back Directory ns takes = let lt = small Directory ns takes refl in rw (section-back 3 (number ns 0) (omega arith), key-back 3 (number ns 0) (omega arith))
+spot-back Remote ns takes =
+    let tests = remote-tests ns (takes .allowed) in
+    let key = 256 * number ns 0 + number ns 1 in
+    let node : (256 * number ns 0 + number ns 1) / 256 ≡ number ns 0 = omega (arith, tests .object) in
+    let of : (256 * number ns 0 + number ns 1) % 256 ≡ number ns 1 = omega (arith, tests .object) in
+    rw (
+      section-back 4 (256 * number ns 0 + number ns 1) (omega (arith, tests .node, tests .object)),
+      key-back 4 (256 * number ns 0 + number ns 1) (omega (arith, tests .node, tests .object)),
+      node,
+      of,
+    )
+spot-back Reference ns takes = let lt = small Reference ns takes refl in rw (section-back 5 (number ns 0) (omega arith), key-back 5 (number ns 0) (omega arith))
+spot-back Decrement ns takes = let lt = small Decrement ns takes refl in rw (section-back 5 (number ns 0) (omega arith), key-back 5 (number ns 0) (omega arith))
+spot-back End ns takes = absurd (false≢true (sym (takes .onward)))
+spot-back Unknown ns takes = absurd (false≢true (sym (takes .known)))
+
+-- records at one position are about one spot
+pub spot-unique : (k : RecordKind) (ns : List ℕ) (k′ : RecordKind) (ns′ : List ℕ) → Takes k ns → Takes k′ ns′
+    → positionOf k ns ≡ positionOf k′ ns′ → spotOf k ns ≡ spotOf k′ ns′
+spot-unique k ns k′ ns′ one two e =
+    sym (spot-back k ns one) ∙ ap (λ (q : ℕ). spotFrom (q / 65536) (q % 65536)) e ∙ spot-back k′ ns′ two
+
+-- all stand before the end
+pub before-end : (k : RecordKind) (ns : List ℕ) → Takes k ns → positionOf k ns < position 6 0
+before-end Count ns takes = omega arith
+before-end Live ns takes = omega (arith, small Live ns takes refl)
+before-end NodeRoots ns takes = omega (arith, small NodeRoots ns takes refl)
+before-end Directory ns takes = omega (arith, small Directory ns takes refl)
+before-end Remote ns takes = let tests = remote-tests ns (takes .allowed) in omega (arith, tests .node, tests .object)
+before-end Reference ns takes = omega (arith, small Reference ns takes refl)
+before-end Decrement ns takes = omega (arith, small Decrement ns takes refl)
+before-end End ns takes = absurd (false≢true (sym (takes .onward)))
+before-end Unknown ns takes = absurd (false≢true (sym (takes .known)))
