@@ -1,3 +1,4 @@
+pub mod Change
 pub mod LawA
 pub mod LawB
 pub mod LawC
