@@ -4,5 +4,7 @@ pub mod LawB
 pub mod LawC
 pub mod LawD
 pub mod LawE
+pub mod Lawful
+pub mod Within
 pub mod Sequence
 pub mod Sound

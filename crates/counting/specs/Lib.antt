@@ -1,0 +1,6 @@
+pub mod Adding
+pub mod Bridge
+pub mod Kept
+pub mod Leaf
+pub mod Rules
+pub mod Under
