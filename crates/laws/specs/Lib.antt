@@ -1,10 +1,16 @@
 pub mod Change
+pub mod Effect
+pub mod Effects
 pub mod LawA
 pub mod LawB
 pub mod LawC
 pub mod LawD
 pub mod LawE
 pub mod Lawful
+pub mod LawfulKept
 pub mod Within
+pub mod WithinKept
+pub mod Passings
 pub mod Sequence
 pub mod Sound
+pub mod Spot
