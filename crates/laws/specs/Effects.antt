@@ -32,11 +32,12 @@ use Rattle.table.specs.Shape.{fitsMessage}
 use Rattle.step.specs.Drop.{lastWords}
 use Rattle.step.specs.Receive.{reply}
 use Rattle.laws.specs.Change.{isOf, Act, other, same, sends, receives, settles, unused, drops, clears}
+use Rattle.laws.specs.Counts.{under, under-parent, none-is, away-air, away-home, decrement-air, decrement-carried, foreign}
 use Rattle.laws.specs.Effect.{Effect, Turning, turning-effect}
 use Rattle.laws.specs.LawA.{airUnder}
 use Rattle.laws.specs.LawB.{returnsIn}
 use Rattle.laws.specs.Lawful.{rules}
-use Rattle.laws.specs.Passings.{away-air, away-home, decrement-air, decrement-carried, foreign, passing-foreign, passing-still, passing-sent, passing-home, passing-came, passing-answered, passing-settled}
+use Rattle.laws.specs.Passings.{passing-foreign, passing-still, passing-sent, passing-home, passing-came, passing-answered, passing-settled}
 use Rattle.laws.specs.Sound.{above, below}
 use Rattle.laws.specs.Spot.{natural-returns, directory-at, RemoteFits, remote-fits, reference-fits, decrement-fits}
 
@@ -159,10 +160,6 @@ module _ (o p : ℕ) where
   same-turn : (e : Entry) → Turn (rules o) 0 0 (pos 0) e e
   same-turn e = record { counts = refl; weights = λ x. refl; returns = sym (+ℤ-idr (msgCtrOf e)) }
 
-  none-is : (z : ℤ) → isNone z ≡ true → z ≡ pos 0
-  none-is (pos n) e = ap pos (eqb-true n 0 e)
-  none-is (negsuc n) e = absurd (true≢false (sym e))
-
   cleared-turn : (d : Directory) → mayGo (AtOwner d) ≡ true → Turn (rules o) 0 0 (pos 0) (AtOwner d) Absent
   unfolding mayGo
   cleared-turn d may =
@@ -184,22 +181,6 @@ module _ (o p : ℕ) where
   }
 
   -- ---- acts that move weight
-
-  -- the weight of a remote entry under a node
-  under : (x : ℕ) (e : Remote) → weightUnder x (Elsewhere e) ≡ (if eqb (e .parent) x then e .«ref_weight» .0 else 0)
-  under x e = go (eqb (e .parent) x)
-    where
-      go : (b : Bool) → elim b [ true ↦ e .«ref_weight» .0 | false ↦ 0 ] ≡ (if b then e .«ref_weight» .0 else 0)
-      go true = refl
-      go false = refl
-
-  -- only the Parent has any
-  under-parent : (x : ℕ) (e : Remote) → 0 < weightUnder x (Elsewhere e) → x ≡ e .parent
-  under-parent x e = go (eqb (e .parent) x) refl
-    where
-      go : (b : Bool) → eqb (e .parent) x ≡ b → 0 < elim b [ true ↦ e .«ref_weight» .0 | false ↦ 0 ] → x ≡ e .parent
-      go true at some = sym (eqb-true (e .parent) x at)
-      go false at some = absurd (omega arith)
 
   -- RECEIVE of a first reference: an entry is made
   made : (q : ℕ) → p ≢ owner o → q ≢ p → Effect o p Absent (Reference q p o) (Elsewhere (firstReceived q)) Empty

@@ -1,4 +1,6 @@
 pub mod Change
+pub mod ClearLaws
+pub mod Counts
 pub mod Effect
 pub mod Effects
 pub mod LawA
