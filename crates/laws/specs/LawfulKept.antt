@@ -88,7 +88,7 @@ lawful-fresh o lo =
 -- ---- all objects
 
 -- a sum of law B is one of the counting
-total-is : (k n : ℕ) (f : ℕ → ℤ) → totalFrom k n f ≡ adding.totalFrom whole k n f
+pub total-is : (k n : ℕ) (f : ℕ → ℤ) → totalFrom k n f ≡ adding.totalFrom whole k n f
 unfolding totalFrom adding.totalFrom
 total-is k zero f = refl
 total-is k (suc n) f = ap (λ (z : ℤ). f k +ℤ z) (total-is (suc k) n f)

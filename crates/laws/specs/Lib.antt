@@ -1,3 +1,4 @@
+pub mod Chains
 pub mod Change
 pub mod ClearLaws
 pub mod Counts
@@ -10,9 +11,9 @@ pub mod LawD
 pub mod LawE
 pub mod Lawful
 pub mod LawfulKept
-pub mod Within
-pub mod WithinKept
 pub mod Passings
 pub mod Sequence
 pub mod Sound
 pub mod Spot
+pub mod Within
+pub mod WithinKept
