@@ -4,6 +4,7 @@ pub mod ClearLaws
 pub mod Counts
 pub mod Effect
 pub mod Effects
+pub mod InRange
 pub mod LawA
 pub mod LawB
 pub mod LawC
