@@ -1,10 +1,9 @@
 -- Numbers that can be added and taken off again, and sums of them: how a sum changes when one of its numbers is replaced. Natural numbers
 -- count references; return counts may be whole numbers, or remainders where they are kept in two bytes. Assumes nothing.
 use mathlib.Core.Path.{_≡_, refl, sym, ap, ap₂, _∙_}
-use mathlib.Core.Logic.{_≢_, _⊎_, inl, inr}
+use mathlib.Core.Logic.{_≢_}
 use Prim.Native.Nat.{ℕ, zero, suc, _+_, _≤_, _<_}
 use native.Mathlib.Decide.{ℕ-discrete}
-use native.Mathlib.Nat.{add-assoc, add-comm, add-zero, zero-add}
 use native.Mathlib.Omega.{arith}
 use lib.IntN.{ℤ, pos, _+ℤ_, _-ℤ_, +ℤ-assoc, +ℤ-comm, +ℤ-idr, +ℤ-negℤ-cancel}
 use Rattle.terms.specs.Counted.{sumFrom, sum}

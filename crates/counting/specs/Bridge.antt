@@ -1,16 +1,15 @@
 -- The bridge from the counts to the heap: the directory of an object is clear exactly where no remote entry, no reference in the air and no
 -- decrement in the air of it exists (document 000, theorem 4.1; PROOF-PLAN, "The theorem that answers the insurer"). Assumes nothing.
-use mathlib.Core.Path.{_≡_, refl, sym, ap, ap₂, _∙_}
-use mathlib.Core.Logic.{_≢_, _⊎_, inl, inr, ⊎-elim}
-use mathlib.Core.Bool.{Bool, true, false}
-use Prim.Native.Nat.{ℕ, zero, suc, _+_, _≤_, _<_}
+use mathlib.Core.Path.{_≡_, sym, ap, ap₂, _∙_}
+use mathlib.Core.Logic.{⊎-elim}
+use Prim.Native.Nat.{ℕ, zero, suc, _<_}
 use native.Mathlib.Decide.{ℕ-discrete}
 use native.Mathlib.Omega.{arith}
-use Rattle.terms.specs.Counted.{howMany, one, sum}
+use Rattle.terms.specs.Counted.{one}
 use Rattle.terms.specs.CountedLaws.{sum-zero, howMany-bound, howMany-none}
-use Rattle.counting.specs.Adding.{Adding, total, total-only, total-nothing}
+use Rattle.counting.specs.Adding.{total-only, total-nothing}
 use Rattle.counting.specs.Rules.{Rules, Share, returned, homeward, Lawful, Shaped, Hangs, Clear, Nobody}
-use Rattle.counting.specs.Under.{weight-counted, air-counted, height}
+use Rattle.counting.specs.Under.{weight-counted, air-counted}
 
 module _ (R : Rules) (c : Share R) (lawful : Lawful R c) (shaped : Shaped R c) where
   -- ---- clear means nobody

@@ -1,17 +1,16 @@
 -- A balanced change of one entry and one message keeps the laws of an object (PROOF-PLAN, "Laws A and B, act by act" and "Law C").
 -- Assumes nothing.
-use mathlib.Core.Path.{_≡_, refl, sym, ap, ap₂, _∙_}
-use mathlib.Core.Logic.{_≢_, _⊎_, inl, inr}
-use mathlib.Core.Bool.{Bool, true, false}
-use Prim.Native.Nat.{ℕ, zero, suc, _+_, _≤_, _<_}
+use mathlib.Core.Path.{_≡_, sym, ap, ap₂, _∙_}
+use mathlib.Core.Logic.{_≢_, inl, inr}
+use Prim.Native.Nat.{ℕ, suc, _+_, _<_}
 use native.Mathlib.Decide.{ℕ-discrete}
 use native.Mathlib.Omega.{arith}
 use lib.Dec.{eqb}
 use borrow.Author.Tests.{eq-eqb, ne-eqb}
 use Rattle.terms.specs.Choose.{if_then_else_}
-use Rattle.terms.specs.Counted.{howMany, one, sum}
+use Rattle.terms.specs.Counted.{one, sum}
 use Rattle.terms.specs.CountedLaws.{sum-at}
-use Rattle.counting.specs.Adding.{Adding, pairs, swap, total, total-replaced, sum-replaced}
+use Rattle.counting.specs.Adding.{Adding, pairs, swap, total-replaced, sum-replaced}
 use Rattle.counting.specs.Rules.{Rules, Share, inflow, returned, homeward, Lawful, Patch, Placed, Balanced}
 
 module _ (R : Rules) (c d : Share R) (patch : Patch R c d) where

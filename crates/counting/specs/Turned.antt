@@ -2,7 +2,7 @@
 -- is left to show of such an act speaks of the message alone. Assumes nothing.
 use mathlib.Core.Path.{_≡_, sym, ap, _∙_}
 use mathlib.Core.Logic.{_≢_, inl}
-use Prim.Native.Nat.{ℕ, _+_, _<_}
+use Prim.Native.Nat.{ℕ, _+_}
 use native.Mathlib.Omega.{arith}
 use Rattle.terms.specs.Counted.{one}
 use Rattle.counting.specs.Adding.{Adding}

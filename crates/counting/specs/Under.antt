@@ -1,15 +1,14 @@
 -- What the laws say of one entry and one message: each is within the count of the node under which it hangs; and no way along such nodes has as
 -- many steps as there are nodes (document 01, law C; PROOF-PLAN, "Law C"). Assumes nothing.
-use mathlib.Core.Path.{_≡_, refl, sym, ap, _∙_}
-use mathlib.Core.Logic.{_≢_, _⊎_, inl, inr}
-use mathlib.Core.Bool.{Bool, true, false}
-use Prim.Native.Nat.{ℕ, zero, suc, _+_, _≤_, _<_}
+use mathlib.Core.Path.{refl}
+use mathlib.Core.Bool.{true}
+use Prim.Native.Nat.{ℕ, _≤_, _<_}
 use native.Mathlib.Omega.{arith}
 use lib.Dec.{ltb}
 use borrow.Author.Tests.{ltb-true, lt-ltb, le-ltb}
-use Rattle.terms.specs.Counted.{howMany, sum}
+use Rattle.terms.specs.Counted.{howMany}
 use Rattle.terms.specs.CountedLaws.{sum-at, howMany-bound, howMany-lt}
-use Rattle.counting.specs.Rules.{Rules, Share, inflow, Lawful}
+use Rattle.counting.specs.Rules.{Rules, Share, Lawful}
 
 module _ (R : Rules) (c : Share R) (lawful : Lawful R c) where
   -- an entry weighs no more than the count of the node under which it hangs

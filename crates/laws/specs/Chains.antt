@@ -2,21 +2,18 @@
 -- PROOF-PLAN, "Law C"). Assumes nothing.
 use mathlib.Core.Path.{_≡_, refl, sym, ap, ap₂, _∙_}
 use mathlib.Core.Logic.{_⊎_, inl, inr, ⊎-elim}
-use mathlib.Core.Bool.{Bool, true, false, true≢false, false≢true}
-use Prim.Native.Nat.{ℕ, zero, suc, _+_, _-_, _≤_, _<_}
-use native.Mathlib.Numerals.{add-one, sub-one}
+use mathlib.Core.Bool.{true, false, true≢false}
+use Prim.Native.Nat.{ℕ, zero, suc, _+_, _≤_, _<_}
+use native.Mathlib.Numerals.{sub-one}
 use native.Mathlib.Omega.{arith}
-use lib.Dec.{ltb}
 use lib.IntN.{_+ℤ_}
 use borrow.Author.Tests.{eq-eqb, lt-ltb}
-use Rattle.terms.specs.Choose.{if_then_else_, _and_}
-use Rattle.terms.specs.Limits.{NODES, OBJECTS, PLACES, STEPS, UNREACHED}
+use Rattle.terms.specs.Limits.{NODES, OBJECTS, PLACES, STEPS}
 use Rattle.entry.specs.declared.Directory.{Directory}
 use Rattle.entry.specs.declared.Remote.{Remote}
 use Rattle.entry.specs.declared.Entry.{Entry}
 use Rattle.entry.specs.declared.Entry.the-variants.{Absent, AtOwner, Elsewhere}
-use Rattle.entry.specs.Entry.{isAbsent, isRemote, rcOf, weightUnder}
-use Rattle.entry.specs.Fits.{fitsEntry}
+use Rattle.entry.specs.Entry.{isAbsent, rcOf, weightUnder}
 use Rattle.counting.specs.Under.{weight-counted, height, height-falls, height-bound}
 use Rattle.table.specs.declared.Depth.{Depth}
 use Rattle.table.specs.declared.Depth.the-variants.{Steps, NotReached}

@@ -1,13 +1,12 @@
 -- The bridge from the counts to the heap, for tables: the directory of an object is clear exactly where nobody else has the object and nothing
 -- of it is in the air (document 000, theorem 4.1; PROOF-PLAN, "The theorem that answers the insurer"). Assumes nothing.
-use mathlib.Core.Path.{_≡_, refl, sym, ap, _∙_}
+use mathlib.Core.Path.{_≡_, refl, ap}
 use mathlib.Core.Logic.{_≢_, _⊎_, inl, inr, ⊎-elim}
 use mathlib.Core.Bool.{Bool, true, false, not, true≢false, false≢true}
 use Prim.Native.Nat.{ℕ, _<_}
-use native.Mathlib.Decide.{ℕ-discrete}
 use native.Mathlib.Omega.{arith}
 use lib.Dec.{eqb}
-use lib.IntN.{ℤ, pos, negsuc}
+use lib.IntN.{pos}
 use borrow.Author.Tests.{eqb-true, eq-eqb}
 use Rattle.terms.specs.Choose.{if_then_else_, _and_}
 use Rattle.terms.specs.Counted.{one}
@@ -18,7 +17,6 @@ use Rattle.entry.specs.declared.Entry.the-variants.{Absent, AtOwner, Elsewhere}
 use Rattle.entry.specs.Entry.{isAbsent, isClear, isNone, isRemote, msgCtrOf, rcOf, weightUnder}
 use Rattle.entry.specs.Fits.{fitsEntry}
 use Rattle.counting.specs.Bridge.{clear-nobody, nobody-clear}
-use Rattle.counting.specs.Rules as counting
 use Rattle.counting.specs.Rules.{Shaped}
 use Rattle.table.specs.declared.Message.{Message}
 use Rattle.table.specs.declared.Message.the-variants.{Empty, Reference, Decrement}

@@ -2,20 +2,19 @@
 -- is due is nought exactly where the directory is clear; and until then a decrement is in the air or a remote entry may go (document 01, law E;
 -- PROOF-PLAN, "Law E"). Assumes nothing.
 use mathlib.Core.Path.{_≡_, refl, sym, ap, _∙_}
-use mathlib.Core.Logic.{_≢_, _⊎_, inl, inr, ⊎-elim, _↔_}
-use mathlib.Core.Bool.{Bool, true, false, not, true≢false, false≢true}
-use Prim.Native.Nat.{ℕ, zero, suc, _+_, _≤_, _<_}
+use mathlib.Core.Logic.{_≢_, _⊎_, inl, inr, _↔_}
+use mathlib.Core.Bool.{Bool, true, false, true≢false, false≢true}
+use Prim.Native.Nat.{ℕ, _+_, _<_}
 use native.Mathlib.Decide.{ℕ-discrete}
 use native.Mathlib.Omega.{arith}
-use lib.Dec.{eqb, leb}
-use borrow.Author.Tests.{eq-eqb, eqb-true}
+use lib.Dec.{leb}
+use borrow.Author.Tests.{eq-eqb}
 use Rattle.terms.specs.Choose.{if_then_else_, _and_}
 use Rattle.terms.specs.Counted.{howMany, one}
 use Rattle.terms.specs.CountedLaws.{Some, howMany-none, sum-zero}
 use Rattle.terms.specs.Limits.{NODES, OBJECTS, PLACES, owner}
 use Rattle.entry.specs.declared.ReturnCount.{ReturnCount}
 use Rattle.entry.specs.declared.Weight.{Weight}
-use Rattle.entry.specs.declared.Remote.{Remote}
 use Rattle.entry.specs.declared.Entry.{Entry}
 use Rattle.entry.specs.declared.Entry.the-variants.{Absent, AtOwner, Elsewhere}
 use Rattle.entry.specs.declared.RemoteAct.{RemoteAct}

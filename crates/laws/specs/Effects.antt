@@ -3,15 +3,15 @@
 use mathlib.Core.Path.{_≡_, refl, sym, ap, _∙_}
 use mathlib.Core.Logic.{_≢_, inl, inr}
 use mathlib.Core.Bool.{Bool, true, false, not, true≢false}
-use Prim.Native.Nat.{ℕ, zero, suc, _+_, _-_, _≤_, _<_}
+use Prim.Native.Nat.{ℕ, _+_}
 use native.Mathlib.Omega.{arith}
 use lib.Dec.{eqb, leb, ltb}
-use lib.IntN.{ℤ, pos, negsuc, natAbs, _+ℤ_, +ℤ-comm, +ℤ-idr}
-use borrow.Author.Tests.{eqb-true, eqb-false, leb-true, eq-eqb, ne-eqb}
+use lib.IntN.{ℤ, pos, negsuc, _+ℤ_, +ℤ-comm, +ℤ-idr}
+use borrow.Author.Tests.{eqb-true, eqb-false, leb-true, eq-eqb}
 use Rattle.terms.specs.Choose.{if_then_else_, _and_}
 use Rattle.terms.specs.Counted.{one}
 use Rattle.terms.specs.CountedLaws.{and-passes}
-use Rattle.terms.specs.Limits.{MOST, NODES, owner}
+use Rattle.terms.specs.Limits.{MOST, owner}
 use Rattle.terms.specs.Numbers.{ACCEPTED, TORN}
 use Rattle.entry.specs.declared.ReturnCount.{ReturnCount}
 use Rattle.entry.specs.declared.Weight.{Weight}
@@ -21,9 +21,9 @@ use Rattle.entry.specs.declared.Entry.{Entry}
 use Rattle.entry.specs.declared.DirectoryAct.{DirectoryAct}
 use Rattle.entry.specs.declared.RemoteAct.{RemoteAct}
 use Rattle.entry.specs.declared.Entry.the-variants.{Absent, AtOwner, Elsewhere}
-use Rattle.entry.specs.Acts.{directory, stays, withCounts, usedWith, firstSent, firstReceived, directorySent, directoryCameHome, directorySettled, remoteSent, remoteSentHome, remoteReceivedAgain, remoteSettled}
-use Rattle.entry.specs.AtNode.{done, torn, refuses, ofDirectory, ofRemote, holderSent, sent, received, settled, setUnused, mayGo}
-use Rattle.entry.specs.Entry.{both, fewer, more, none, weight, weightUnder, msgCtrOf, rcOf, isNone}
+use Rattle.entry.specs.Acts.{stays, usedWith, firstSent, firstReceived, directorySent, directoryCameHome, directorySettled, remoteSent, remoteSentHome, remoteReceivedAgain, remoteSettled}
+use Rattle.entry.specs.AtNode.{done, torn, refuses, ofRemote, holderSent, sent, received, settled, setUnused, mayGo}
+use Rattle.entry.specs.Entry.{both, fewer, more, none, weight, weightUnder, msgCtrOf, isNone}
 use Rattle.entry.specs.Fits.{fitsDirectoryReturns, fitsReturns, fitsEntry}
 use Rattle.counting.specs.Turned.{Turn}
 use Rattle.table.specs.declared.Message.{Message}
@@ -38,7 +38,6 @@ use Rattle.laws.specs.LawA.{airUnder}
 use Rattle.laws.specs.LawB.{returnsIn}
 use Rattle.laws.specs.Lawful.{rules}
 use Rattle.laws.specs.Passings.{passing-foreign, passing-still, passing-sent, passing-home, passing-came, passing-answered, passing-settled}
-use Rattle.laws.specs.Sound.{above, below}
 use Rattle.laws.specs.Spot.{natural-returns, directory-at, RemoteFits, remote-fits, reference-fits, decrement-fits}
 
 -- an act that is not refused passed its test

@@ -3,17 +3,14 @@
 -- Assumes nothing.
 use mathlib.Core.Path.{_≡_, refl, sym, ap, _∙_}
 use mathlib.Core.Logic.{_≢_, _⊎_, inl, inr}
-use mathlib.Core.Bool.{Bool, true, false, not, true≢false, false≢true}
-use Prim.Native.Nat.{ℕ, zero, suc, _+_, _≤_, _<_}
+use mathlib.Core.Bool.{Bool, true, false, true≢false, false≢true}
+use Prim.Native.Nat.{ℕ, suc, _+_, _≤_, _<_}
 use native.Mathlib.Decide.{ℕ-discrete}
 use native.Mathlib.Omega.{arith}
-use lib.Dec.{eqb, leb, ltb}
-use lib.IntN.{ℤ, pos, negsuc, natAbs, _+ℤ_}
-use borrow.Author.Tests.{eq-eqb, ne-eqb, le-leb, lt-ltb, eqb-true}
-use Rattle.terms.specs.Choose.{if_then_else_, _and_}
+use lib.IntN.{ℤ, pos, negsuc, _+ℤ_}
+use borrow.Author.Tests.{eq-eqb, ne-eqb, le-leb, lt-ltb}
 use Rattle.terms.specs.CountedLaws.{sum-at}
 use Rattle.terms.specs.Limits.{MOST, NODES, OBJECTS, PLACES, owner}
-use Rattle.terms.specs.Numbers.{ACCEPTED}
 use Rattle.entry.specs.declared.ReturnCount.{ReturnCount}
 use Rattle.entry.specs.declared.Weight.{Weight}
 use Rattle.entry.specs.declared.Remote.{Remote}
@@ -22,7 +19,7 @@ use Rattle.entry.specs.declared.Entry.the-variants.{Absent, AtOwner, Elsewhere}
 use Rattle.entry.specs.Acts.{directorySent, directoryCameHome, directorySettled, remoteSent, remoteSentHome, remoteReceivedAgain, remoteSettled}
 use Rattle.entry.specs.AtNode.{refuses, holderSent, sent, received, settled}
 use Rattle.entry.specs.Entry.{isAbsent, isClear, isPresent, msgCtrOf, rcOf, weightUnder}
-use Rattle.entry.specs.Fits.{fitsDirectoryReturns, fitsReturns, fitsEntry, withinMost, naturalMost}
+use Rattle.entry.specs.Fits.{fitsReturns, fitsEntry, withinMost, naturalMost}
 use Rattle.counting.specs.Under.{weight-counted, air-counted}
 use Rattle.table.specs.declared.Message.the-variants.{Reference, Decrement}
 use Rattle.table.specs.declared.Table.{Table}

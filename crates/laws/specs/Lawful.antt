@@ -1,6 +1,6 @@
 -- Laws A, B and C of one object of a table: the rule set of document 01 as an instance of crate counting, and each object's share of a table.
 -- Definitions only; assumes nothing.
-use mathlib.Core.Path.{_≡_, refl, ap}
+use mathlib.Core.Path.{refl, ap}
 use Prim.Native.Nat.{ℕ}
 use lib.IntN.{pos, natAbs}
 use Rattle.terms.specs.Limits.{NODES, PLACES, owner}

@@ -1,13 +1,13 @@
 -- Laws A, B and C of one object hold in the fresh table and are kept by every change; from those of all objects, laws A and B of the table
 -- follow as document 01 states them (law C is in specs/Chains.antt). Assumes nothing.
 use mathlib.Core.Path.{_≡_, refl, sym, ap, ap₂, _∙_}
-use mathlib.Core.Bool.{true, false}
+use mathlib.Core.Bool.{true}
 use mathlib.Core.List.{[]}
 use Prim.Native.Nat.{ℕ, zero, suc, _+_, _<_}
 use native.Mathlib.Omega.{arith}
 use lib.IntN.{ℤ, pos, _+ℤ_}
-use lib.ListN.{getD, replicate, getD-replicate}
-use Rattle.terms.specs.Counted.{one, sum}
+use lib.ListN.{replicate, getD-replicate}
+use Rattle.terms.specs.Counted.{one}
 use Rattle.terms.specs.CountedLaws.{sum-zero}
 use Rattle.terms.specs.Limits.{NODES, OBJECTS, PLACES}
 use Rattle.entry.specs.declared.Entry.the-variants.{Absent}

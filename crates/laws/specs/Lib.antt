@@ -2,6 +2,7 @@ pub mod Chains
 pub mod Change
 pub mod ClearLaws
 pub mod Counts
+pub mod CountsKept
 pub mod Drained
 pub mod Effect
 pub mod Effects

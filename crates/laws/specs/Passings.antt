@@ -2,7 +2,7 @@
 -- (PROOF-PLAN, "Laws A and B, act by act"). Assumes nothing.
 use mathlib.Core.Path.{_≡_, refl, sym, ap, _∙_}
 use mathlib.Core.Logic.{_≢_}
-use mathlib.Core.Bool.{true, false}
+use mathlib.Core.Bool.{false}
 use Prim.Native.Nat.{ℕ, _+_}
 use native.Mathlib.Omega.{arith}
 use lib.IntN.{ℤ, pos, negsuc, _+ℤ_, +ℤ-idl, +ℤ-idr}

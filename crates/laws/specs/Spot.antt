@@ -1,12 +1,11 @@
 -- What the shape of a table says of one spot: of the entry of an object at a node, and of the message in a place. Assumes nothing.
 use mathlib.Core.Path.{_≡_, refl, sym}
 use mathlib.Core.Logic.{_≢_}
-use mathlib.Core.Bool.{true, false, not, true≢false}
-use Prim.Native.Nat.{ℕ, zero, suc, _≤_, _<_}
+use mathlib.Core.Bool.{true, not, true≢false}
+use Prim.Native.Nat.{ℕ, _≤_, _<_}
 use lib.Dec.{leb, ltb, eqb}
 use lib.IntN.{ℤ, pos, negsuc, natAbs}
 use borrow.Author.Tests.{leb-true, ltb-true, eqb-true, eqb-false, not-true}
-use Rattle.terms.specs.Choose.{_and_}
 use Rattle.terms.specs.Counted.{every}
 use Rattle.terms.specs.CountedLaws.{and-passes, every-at}
 use Rattle.terms.specs.Limits.{MOST, NODES, OBJECTS, PLACES, EVENTS, owner}
@@ -15,7 +14,7 @@ use Rattle.entry.specs.declared.Weight.{Weight}
 use Rattle.entry.specs.declared.Directory.{Directory}
 use Rattle.entry.specs.declared.Remote.{Remote}
 use Rattle.entry.specs.declared.Entry.the-variants.{AtOwner, Elsewhere}
-use Rattle.entry.specs.Fits.{fitsDirectoryReturns, fitsReturns, fitsWeight, fitsDirectory, fitsRemote, fitsEntry}
+use Rattle.entry.specs.Fits.{fitsReturns, fitsRemote, fitsEntry}
 use Rattle.heap.specs.Heap.{fitsHeap}
 use Rattle.table.specs.declared.Message.the-variants.{Reference, Decrement}
 use Rattle.table.specs.declared.Table.{Table}

@@ -1,8 +1,8 @@
 -- The limits of one object's counts hold in the fresh table, and a change raises them by one at most (PROOF-PLAN, "The field", 4).
 -- Assumes nothing.
-use mathlib.Core.Path.{_≡_, refl, sym, ap, _∙_}
-use mathlib.Core.Bool.{true, false}
-use Prim.Native.Nat.{ℕ, zero, suc, _+_, _≤_, _<_}
+use mathlib.Core.Path.{_≡_}
+use mathlib.Core.Bool.{true}
+use Prim.Native.Nat.{ℕ, _+_, _≤_, _<_}
 use native.Mathlib.Decide.{ℕ-discrete}
 use native.Mathlib.Omega.{arith}
 use Rattle.terms.specs.CountedLaws.{sum-zero}
@@ -10,7 +10,6 @@ use Rattle.terms.specs.Limits.{NODES, OBJECTS, PLACES}
 use Rattle.entry.specs.declared.Entry.{Entry}
 use Rattle.entry.specs.Entry.{msgCtrOf, rcOf}
 use Rattle.counting.specs.Kept.{measured}
-use Rattle.table.specs.declared.Message.{Message}
 use Rattle.table.specs.declared.Table.{Table}
 use Rattle.table.specs.Shape.{fitsTable}
 use Rattle.table.specs.Table.{freshTable, entryAt, messageAt}
@@ -18,7 +17,7 @@ use Rattle.laws.specs.Change.{Change}
 use Rattle.laws.specs.LawB.{returnsIn}
 use Rattle.laws.specs.Lawful.{rules, share}
 use Rattle.laws.specs.LawfulKept.{patch, effect, fresh-entry, fresh-message}
-use Rattle.laws.specs.Sound.{above, below, returnsAbove}
+use Rattle.laws.specs.Sound.{above, below}
 use Rattle.laws.specs.Within.{Within}
 
 module _ {t u : Table} {o : ℕ} (change : Change t u o) (shape : fitsTable t ≡ true) (lo : o < OBJECTS) where
