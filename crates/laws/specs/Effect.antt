@@ -18,6 +18,7 @@ use Rattle.laws.specs.Sound.{above, below}
 
 -- ---- the parts of a sum above and below zero
 
+-- of a difference
 difference-parts : (a b : ℕ) → (above (subℕ a b) ≤ a) × (below (subℕ a b) ≤ b)
 difference-parts a b = go (ltb a b) (ltb-true a b)
   where
@@ -26,6 +27,7 @@ difference-parts a b = go (ltb a b) (ltb-true a b)
     go true less = let lt = less refl in omega arith
     go false less = omega arith
 
+-- neither part is more than those of the two numbers
 pub sum-parts : (a b : ℤ) → (above (a +ℤ b) ≤ above a + above b) × (below (a +ℤ b) ≤ below a + below b)
 sum-parts (pos a) (pos b) = omega arith
 sum-parts (pos a) (negsuc b) = omega (arith, difference-parts a (suc b))
@@ -35,6 +37,7 @@ sum-parts (negsuc a) (negsuc b) = omega arith
 -- ---- acts
 
 module _ (o p : ℕ) (e : Entry) (x : Message) (e′ : Entry) (x′ : Message) where
+  -- of an act on entry e and message x that hands back e′ and x′
   pub record Effect : Type 0 where
     pub balanced : Balanced (rules o) p e x e′ x′
     pub counts : rcOf e′ ≤ rcOf e + 1
@@ -52,6 +55,7 @@ module _ (o p : ℕ) (e : Entry) (x : Message) (e′ : Entry) (x′ : Message) w
     pub risen : above by + above (returnsIn o x′) ≤ above (returnsIn o x) + 1
     pub fallen : below by ≤ 1
 
+  -- and its effect
   pub turning-effect : Turning → Effect
   turning-effect t =
       let parts = sum-parts (msgCtrOf e) (t .by) in

@@ -20,6 +20,7 @@ use Rattle.entry.specs.declared.Remote.{Remote}
 use Rattle.entry.specs.declared.Entry.{Entry}
 use Rattle.entry.specs.declared.DirectoryAct.{DirectoryAct}
 use Rattle.entry.specs.declared.RemoteAct.{RemoteAct}
+use Rattle.entry.specs.declared.EntryAct.{EntryAct}
 use Rattle.entry.specs.declared.Entry.the-variants.{Absent, AtOwner, Elsewhere}
 use Rattle.entry.specs.Acts.{stays, usedWith, firstSent, firstReceived, directorySent, directoryCameHome, directorySettled, remoteSent, remoteSentHome, remoteReceivedAgain, remoteSettled}
 use Rattle.entry.specs.AtNode.{done, torn, refuses, ofRemote, holderSent, sent, received, settled, setUnused, mayGo}
@@ -75,25 +76,25 @@ module _ (o p : ℕ) where
       fallen = omega arith;
     }
 
-    holder-turning : (e : Remote) (home : Bool) → eqb q (owner o) ≡ home → refuses (holderSent home e) ≡ false
-        → Turning o p (Elsewhere e) Empty (holderSent home e .entry) (Reference p q o)
-    unfolding holderSent remoteSent remoteSentHome
-    holder-turning e home to ok = go (e .presence) home to ok
-      where
-        go : (present home : Bool) → eqb q (owner o) ≡ home
-            → refuses (if present then (if home then ofRemote (remoteSentHome e) else ofRemote (remoteSent e)) else torn (Elsewhere e)) ≡ false
-            → Turning o p (Elsewhere e) Empty
-            ((if present then (if home then ofRemote (remoteSentHome e) else ofRemote (remoteSent e)) else torn (Elsewhere e)) .entry) (Reference p q o)
-        go false home to ok = absurd (true≢false ok)
-        go true true to ok =
-            rw (passes (λ (a : RemoteAct). a .refusal) (stays fitsReturns (e .«msg_ctr») (more (e .«msg_ctr»))) _ _ refl ok)
-            (returned (eqb-true q (owner o) to) (record { counts = refl; weights = λ x. refl; returns = refl }))
-        go true false to ok =
-            rw (passes (λ (a : RemoteAct). a .refusal) (ltb (e .rc) MOST) _ _ refl ok)
-            (counted (eqb-false q (owner o) to) (record { counts = omega arith; weights = λ x. refl; returns = sym (+ℤ-idr (e .«msg_ctr» .0)) }))
+    -- a holder sends, with Presence true, home or on to another node
+    abbrev holding : Remote → Bool → Bool → EntryAct
+    holding e present home = if present then (if home then ofRemote (remoteSentHome e) else ofRemote (remoteSent e)) else torn (Elsewhere e)
 
-    sent-turning : p ≢ q → (e : Entry) → fitsEntry p o e ≡ true → refuses (sent p q o e) ≡ false → Turning o p e Empty (sent p q o e .entry) (Reference p q o)
-    unfolding sent directorySent
+    holder-turning : (e : Remote) (present home : Bool) → eqb q (owner o) ≡ home → refuses (holding e present home) ≡ false
+        → Turning o p (Elsewhere e) Empty (holding e present home .entry) (Reference p q o)
+    unfolding remoteSent remoteSentHome
+    holder-turning e false home to ok = absurd (true≢false ok)
+    holder-turning e true true to ok =
+        rw (passes (λ (a : RemoteAct). a .refusal) (stays fitsReturns (e .«msg_ctr») (more (e .«msg_ctr»))) _ _ refl ok)
+        (returned (eqb-true q (owner o) to) (record { counts = refl; weights = λ x. refl; returns = refl }))
+    holder-turning e true false to ok =
+        rw (passes (λ (a : RemoteAct). a .refusal) (ltb (e .rc) MOST) _ _ refl ok)
+        (counted (eqb-false q (owner o) to) (record { counts = omega arith; weights = λ x. refl; returns = sym (+ℤ-idr (e .«msg_ctr» .0)) }))
+
+    -- whoever sends
+    sent-turning : p ≢ q → (e : Entry) → fitsEntry p o e ≡ true → refuses (sent p q o e) ≡ false
+        → Turning o p e Empty (sent p q o e .entry) (Reference p q o)
+    unfolding sent holderSent directorySent
     sent-turning apart Absent fits ok = go (eqb p (owner o)) refl ok
       where
         go : (b : Bool) → eqb p (owner o) ≡ b → refuses (if b then done (AtOwner firstSent) else torn Absent) ≡ false
@@ -104,7 +105,7 @@ module _ (o p : ℕ) where
         rw (passes (λ (a : DirectoryAct). a .refusal) (ltb (d .rc) MOST) _ _ refl ok)
         (counted (λ e. apart (directory-at p o d fits ∙ sym e))
         (record { counts = omega arith; weights = λ x. refl; returns = sym (+ℤ-idr (d .«msg_ctr» .0)) }))
-    sent-turning apart (Elsewhere e) fits ok = holder-turning e (eqb q (owner o)) refl ok
+    sent-turning apart (Elsewhere e) fits ok = holder-turning e (e .presence) (eqb q (owner o)) refl ok
 
   -- ---- SETTLE
 
@@ -122,7 +123,9 @@ module _ (o p : ℕ) where
       fallen = rw (natural-returns m natural) (omega arith);
     }
 
-    settled-turning : (e : Entry) → fitsReturns m ≡ true → refuses (settled m n e) ≡ false → Turning o p e (Decrement q p o m n) (settled m n e .entry) Empty
+    -- whoever settles
+    settled-turning : (e : Entry) → fitsReturns m ≡ true → refuses (settled m n e) ≡ false
+        → Turning o p e (Decrement q p o m n) (settled m n e .entry) Empty
     unfolding settled directorySettled remoteSettled
     settled-turning Absent natural ok = absurd (true≢false ok)
     settled-turning (AtOwner d) natural ok =
@@ -151,14 +154,17 @@ module _ (o p : ℕ) where
     fallen = omega arith;
   }
 
+  -- Presence is not counted
   unused-turn : (e : Entry) → Turn (rules o) 0 0 (pos 0) e (setUnused e)
   unused-turn Absent = record { counts = refl; weights = λ x. refl; returns = refl }
   unused-turn (AtOwner d) = record { counts = refl; weights = λ x. refl; returns = sym (+ℤ-idr (d .«msg_ctr» .0)) }
   unused-turn (Elsewhere e) = record { counts = refl; weights = λ x. refl; returns = sym (+ℤ-idr (e .«msg_ctr» .0)) }
 
+  -- the entry stays
   same-turn : (e : Entry) → Turn (rules o) 0 0 (pos 0) e e
   same-turn e = record { counts = refl; weights = λ x. refl; returns = sym (+ℤ-idr (msgCtrOf e)) }
 
+  -- a directory that may go counts for nothing
   cleared-turn : (d : Directory) → mayGo (AtOwner d) ≡ true → Turn (rules o) 0 0 (pos 0) (AtOwner d) Absent
   unfolding mayGo
   cleared-turn d may =
@@ -287,6 +293,7 @@ module _ (o p : ℕ) where
       else if ltb (e .«ref_weight» .0) MOST then record { refusal = ACCEPTED; entry = usedWith e (weight (e .«ref_weight» .0 + 1)) }
       else record { refusal = TORN; entry = e }
 
+  -- whoever receives
   received-effect : (q : ℕ) → q ≢ p → (e : Entry) → fitsEntry p o e ≡ true → refuses (received q p o e) ≡ false
       → Effect o p e (Reference q p o) (received q p o e .entry) (reply q p o e)
   unfolding received remoteReceivedAgain
@@ -308,7 +315,9 @@ module _ (o p : ℕ) where
 
   -- ---- every act
 
-  pub act-effect : {e : Entry} {x : Message} {e′ : Entry} {y : Message} → Act o p e x e′ y → fitsEntry p o e ≡ true → fitsMessage x ≡ true → Effect o p e x e′ y
+  -- for an entry and a message in shape
+  pub act-effect : {e : Entry} {x : Message} {e′ : Entry} {y : Message} → Act o p e x e′ y
+      → fitsEntry p o e ≡ true → fitsMessage x ≡ true → Effect o p e x e′ y
   act-effect (other ex ey) fits way = turning-effect _ _ _ _ _ _ (unconcerned ex ey)
   act-effect (same {e = e}) fits way = turning-effect _ _ _ _ _ _ (idle (same-turn e))
   act-effect (sends {e = e} {q = q} apart number ok) fits way = turning-effect _ _ _ _ _ _ (sent-turning q apart e fits ok)
