@@ -44,8 +44,9 @@ module _ (R : Rules) (c d : Share R) (patch : Patch R c d) where
   homeward-measured : N .plus (R .of (homeward R d)) (R .of (one (R .home (c .message (patch .place)))))
       ≡ N .plus (R .of (homeward R c)) (R .of (one (R .home (d .message (patch .place)))))
   homeward-measured =
-      let replaced = sum-replaced (R .places) (λ s. one (R .home (c .message s))) (λ s. one (R .home (d .message s))) (patch .place) (patch .place-number)
-      (λ s ls ne. ap (λ x. one (R .home x)) (patch .messages s ls ne)) in
+      let came : R .Message → ℕ = λ x. one (R .home x) in
+      let replaced = sum-replaced (R .places) (λ s. came (c .message s)) (λ s. came (d .message s)) (patch .place) (patch .place-number)
+      (λ s ls ne. ap came (patch .messages s ls ne)) in
       sym (R .of-more _ _) ∙ ap (R .of) replaced ∙ R .of-more _ _
 
   -- the act is balanced

@@ -42,7 +42,8 @@ use Rattle.laws.specs.Passings.{passes-foreign, passes-still, passes-sen
 use Rattle.laws.specs.Spot.{directory-at, RemoteFits, remote-fits, reference-fits, decrement-fits}
 
 -- an act that is not refused passed its test
-test-passed : {A : Type 0} (refusal : A → ℕ) (b : Bool) (a c : A) → refusal c ≡ TORN → not (eqb (refusal (if b then a else c)) ACCEPTED) ≡ false → b ≡ true
+test-passed : {A : Type 0} (refusal : A → ℕ) (b : Bool) (a c : A) → refusal c ≡ TORN
+    → not (eqb (refusal (if b then a else c)) ACCEPTED) ≡ false → b ≡ true
 test-passed refusal true a c e ok = refl
 test-passed refusal false a c e ok = absurd (true≢false (ap (λ (n : ℕ). not (eqb n ACCEPTED)) (sym e) ∙ ok))
 
@@ -218,7 +219,9 @@ module _ (o p : ℕ) where
   answered : (q : ℕ) (e : Remote) → p ≢ owner o
       → Effect o p (Elsewhere e) (Reference q p o) (Elsewhere (usedWith e (e .«ref_weight»))) (Decrement p q o none (weight 1))
   answered q e away =
-      turned-effect o p 0 0 (pos 0) (record { counts = refl; weights = λ x. refl; returns = sym (+ℤ-idr (e .«msg_ctr» .0)) }) (passes-answered o p q away)
+      turned-effect o p 0 0 (pos 0)
+      (record { counts = refl; weights = λ x. refl; returns = sym (+ℤ-idr (e .«msg_ctr» .0)) })
+      (passes-answered o p q away)
 
   -- the act on a remote entry when a reference arrives, by whether it comes from the Parent
   abbrev again : Remote → Bool → RemoteAct
