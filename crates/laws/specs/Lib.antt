@@ -1,4 +1,7 @@
+pub mod Answered
 pub mod Change
+pub mod Did
+pub mod DidLaws
 pub mod LawA
 pub mod LawB
 pub mod LawC
