@@ -7,5 +7,11 @@ pub mod LawB
 pub mod LawC
 pub mod LawD
 pub mod LawE
+pub mod Link
+pub mod LinkCollect
+pub mod Linked
+pub mod Reclaimed
 pub mod Sequence
+pub mod ShapeLaws
 pub mod Sound
+pub mod TableLaws
