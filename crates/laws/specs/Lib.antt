@@ -2,6 +2,9 @@ pub mod Answered
 pub mod Change
 pub mod Did
 pub mod DidLaws
+pub mod EntryFits
+pub mod Good
+pub mod KeepsShape
 pub mod LawA
 pub mod LawB
 pub mod LawC
@@ -15,3 +18,4 @@ pub mod Sequence
 pub mod ShapeLaws
 pub mod Sound
 pub mod TableLaws
+pub mod Writes
