@@ -129,7 +129,9 @@ module _ (t : Table) (e : Event) (accepted : step t e .answer ≡ ACCEPTED) wher
       record {
         free = past .0;
         accepts = sym (ap (λ (x : Outcome). x .answer) by-effect) ∙ rule-answer;
-        after = ap (λ (x : Outcome). x .table) (past-common .1) ∙ counts (by t (ruleOf t e)) rule-answer ∙ ap (λ (x : Outcome). counting t (x .table)) by-effect;
+        after =
+            ap (λ (x : Outcome). x .table) (past-common .1) ∙ counts (by t (ruleOf t e)) rule-answer
+            ∙ ap (λ (x : Outcome). counting t (x .table)) by-effect;
       }
     where
       counts : (x : Outcome) → x .answer ≡ ACCEPTED → oneMore (t .count) x .table ≡ counting t (x .table)

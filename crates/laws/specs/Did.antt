@@ -95,7 +95,8 @@ pub data Did (t : Table) (e : Event) : Table → Type 0 where
       → InReach t (e .a) (rootAt (t .heap) (e .a) (e .b))
       → Did t e (counting t (withHeap t (withField (t .heap) (rootAt (t .heap) (e .a) (e .b)) (e .c) (rootAt (t .heap) (e .a) (e .d)))))
   send : e .kind ≡ SEND → SendFree t (e .a) (e .b) (e .c) → Did t e (counting t (withSent t (e .a) (e .c) (rootAt (t .heap) (e .a) (e .b))))
-  receive : {from to o : ℕ} → e .kind ≡ RECEIVE → ReceiveFree t (e .a) (e .b) from to o → Did t e (counting t (withReceived t (e .a) (e .b) from to o))
+  receive : {from to o : ℕ} → e .kind ≡ RECEIVE → ReceiveFree t (e .a) (e .b) from to o
+      → Did t e (counting t (withReceived t (e .a) (e .b) from to o))
   settle : {from to o : ℕ} {m : ReturnCount} {n : Weight} → e .kind ≡ SETTLE → SettleFree t (e .a) from to o m n
       → Did t e (counting t (withSettled t (e .a) to o m n))
   collect : e .kind ≡ COLLECT → CollectFree t (e .a) → Did t e (counting t (withCollected t (e .a) (kept t (e .a)) (heldAt t (e .a) (kept t (e .a)))))

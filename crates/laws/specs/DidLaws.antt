@@ -142,13 +142,15 @@ module _ (t : Table) (e : Event) where
   unfolding ruleFor load
   did-load of =
       let range = of .operands in
-      becomes (of .done .after) (Did.load (of .kind) (range .a) (range .b) (range .c) (range .d) (in-reach (e .a) (rootAt (t .heap) (e .a) (e .c)) (of .done .free)))
+      let reach = in-reach (e .a) (rootAt (t .heap) (e .a) (e .c)) (of .done .free) in
+      becomes (of .done .after) (Did.load (of .kind) (range .a) (range .b) (range .c) (range .d) reach)
 
   did-store : Of Store → Did t e (step t e .table)
   unfolding ruleFor store
   did-store of =
       let range = of .operands in
-      becomes (of .done .after) (Did.store (of .kind) (range .a) (range .b) (range .c) (range .d) (in-reach (e .a) (rootAt (t .heap) (e .a) (e .b)) (of .done .free)))
+      let reach = in-reach (e .a) (rootAt (t .heap) (e .a) (e .b)) (of .done .free) in
+      becomes (of .done .after) (Did.store (of .kind) (range .a) (range .b) (range .c) (range .d) reach)
 
   did-send : Of Send → Did t e (step t e .table)
   unfolding ruleFor send
@@ -212,7 +214,8 @@ module _ (t : Table) (e : Event) where
       go Absent q done = absurd (true≢false (done .free .0))
       go (AtOwner d) q done = becomes (done .after) (Did.drop-directory (of .kind) (free (AtOwner d) q (done .free .0)))
       go (Elsewhere x) q done =
-          becomes (done .after) (Did.drop-remote (of .kind) (free (Elsewhere x) q (done .free .0)) (ltb-true (emptyPlace t) PLACES (not-false _ (done .free .1 .0))))
+          let room = ltb-true (emptyPlace t) PLACES (not-false _ (done .free .1 .0)) in
+          becomes (done .after) (Did.drop-remote (of .kind) (free (Elsewhere x) q (done .free .0)) room)
 
   -- whichever kind it is; none of its operands is in range where it is unknown
   did-kind : (k : Kind) → Of k → Did t e (step t e .table)

@@ -159,7 +159,8 @@ module _ (e : Remote) (parts : RemoteParts e) where
       let w = e .«ref_weight» .0 in
       either-way (λ (a : RemoteAct). Stays e (a .entry)) (not (eqb (e .parent) sender))
       (λ another. weighed w (parts .positive) (parts .weight))
-      (either-way (λ (a : RemoteAct). Stays e (a .entry)) (ltb w MOST) (λ low. weighed (w + 1) (omega arith) (omega (arith, ltb-true w MOST low))) as-it-was)
+      (either-way (λ (a : RemoteAct). Stays e (a .entry)) (ltb w MOST)
+      (λ low. weighed (w + 1) (omega arith) (omega (arith, ltb-true w MOST low))) as-it-was)
 
   remote-settled : (m : ReturnCount) (n : Weight) → Stays e (remoteSettled e m n .entry)
   unfolding remoteSettled
@@ -180,7 +181,8 @@ module _ (node o : ℕ) where
   at-owner d fits = let p = and-passes (eqb node (owner o)) (fitsDirectory d) .0 fits in (p .0, directory-parts d (p .1))
 
   -- so does one that its act changed
-  directory-kept : (d f : Directory) → fitsEntry node o (AtOwner d) ≡ true → (DirectoryParts d → DirectoryParts f) → fitsEntry node o (AtOwner f) ≡ true
+  directory-kept : (d f : Directory) → fitsEntry node o (AtOwner d) ≡ true → (DirectoryParts d → DirectoryParts f)
+      → fitsEntry node o (AtOwner f) ≡ true
   unfolding fitsEntry
   directory-kept d f fits keeps = let p = at-owner d fits in rw (p .0, directory-fits f (keeps (p .1)))
 
@@ -219,7 +221,8 @@ module _ (node o : ℕ) where
       (λ home. remote-kept e (remoteSentHome e .entry) fits (remote-sent-home e)) (remote-kept e (remoteSent e .entry) fits (remote-sent e))) fits
 
   -- RECEIVE
-  pub received-fits : (from : ℕ) (e : Entry) → from < NODES → from ≢ node → fitsEntry node o e ≡ true → fitsEntry node o (received from node o e .entry) ≡ true
+  pub received-fits : (from : ℕ) (e : Entry) → from < NODES → from ≢ node → fitsEntry node o e ≡ true
+      → fitsEntry node o (received from node o e .entry) ≡ true
   unfolding received
   received-fits from Absent sender apart fits = go (eqb node (owner o)) refl
     where

@@ -72,7 +72,10 @@ is-good t formed shape = record {
     nodes = formed .nodes;
     roots = λ p number. record { size = formed .roots p number; fits = shape .roots p number };
   };
-  cells = record { size = formed .cells; cell = λ o number. record { size = formed .entries o number; fits = λ p node. shape .entries p o node number } };
+  cells = record {
+    size = formed .cells;
+    cell = λ o number. record { size = formed .entries o number; fits = λ p node. shape .entries p o node number };
+  };
   air = record { size = formed .places; fits = shape .messages };
 }
 
@@ -103,7 +106,8 @@ module _ {t : Table} (g : Good t) where
 pub object-set : {h : Heap} (o : ℕ) (x : Object) → GoodHeap h → GoodObject x → o < OBJECTS → GoodHeap (withObject h o x)
 object-set {h} o x g fits number = record {
   objects = length-set (h .objects) o x ∙ g .objects;
-  object = λ a low. set-all (λ j y. GoodObject y) (h .objects) o x (record { live = false; fields = [] }) (omega (arith, g .objects)) fits a (g .object a low);
+  object = λ a low. set-all (λ j y. GoodObject y) (h .objects) o x (record { live = false; fields = [] })
+      (omega (arith, g .objects)) fits a (g .object a low);
   nodes = g .nodes;
   roots = g .roots;
 }
@@ -151,5 +155,6 @@ cells-set {cs} o c g fits number = record {
 pub air-set : {ps : List Place} (s : ℕ) (m : Message) → GoodAir ps → s < PLACES → fitsMessage m ≡ true → GoodAir (set ps s (record { held = m }))
 air-set {ps} s m g place fits = record {
   size = length-set ps s (record { held = m }) ∙ g .size;
-  fits = λ a low. set-all (λ j y. fitsMessage (y .held) ≡ true) ps s (record { held = m }) (record { held = Empty }) (omega (arith, g .size)) fits a (g .fits a low);
+  fits = λ a low. set-all (λ j y. fitsMessage (y .held) ≡ true) ps s (record { held = m }) (record { held = Empty })
+      (omega (arith, g .size)) fits a (g .fits a low);
 }

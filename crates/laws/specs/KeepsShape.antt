@@ -76,7 +76,7 @@ born-good : GoodObject born
 unfolding fitsObject everyFrom
 born-good = record { size = refl; fits = refl }
 
-idle-good : GoodObject idle
+pub idle-good : GoodObject idle
 unfolding fitsObject everyFrom
 idle-good = record { size = refl; fits = refl }
 

@@ -5,6 +5,7 @@ pub mod DidLaws
 pub mod EntryFits
 pub mod Good
 pub mod KeepsShape
+pub mod Kept
 pub mod LawA
 pub mod LawB
 pub mod LawC

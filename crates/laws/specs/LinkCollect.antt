@@ -123,8 +123,8 @@ module _ {t : Table} (formed : Formed t) (shape : Shaped t) {e : Event} where
   linked-did (Did.receive kind free) o object = link-receive formed shape kind free o object
   linked-did (Did.settle kind free) o object = link-settle formed shape kind free o object
   linked-did (Did.collect kind free) o object = link-collect formed (free .node) e kind o object
-  linked-did (Did.drop-directory kind free) o object = link-clear formed shape kind free o object
-  linked-did (Did.drop-remote kind free room) o object = link-drop formed shape kind free room o object
+  linked-did (Did.drop-directory kind free) o object = link-clear formed kind free o object
+  linked-did (Did.drop-remote kind free room) o object = link-drop formed kind free room o object
 
 module _ (t : Table) (e : Event) (formed : Formed t) (accepted : step t e .answer ≡ ACCEPTED) where
   -- an accepted event is linked to its act on every object
