@@ -78,6 +78,7 @@ record Below (r : Ranges) (e : Event) : Type 0 where
   c : e .c < r .c
   d : e .d < r .d
 
+-- so it is where the operands fit
 below : (r : Ranges) (e : Event) → fitsRanges r e ≡ true → Below r e
 below r e fits =
     let one = and-passes (ltb (e .a) (r .a)) _ .0 fits in
@@ -114,6 +115,7 @@ module _ (t : Table) (e : Event) where
   becomes : {u : Table} → step t e .table ≡ u → Did t e u → Did t e (step t e .table)
   becomes q d = subst (λ u. Did t e u) (sym q) d
 
+  -- NEW: its three refusals
   did-new : Of New → Did t e (step t e .table)
   unfolding ruleFor new
   did-new of =
@@ -126,6 +128,7 @@ module _ (t : Table) (e : Event) where
         unlisted = absent-is (entryAt t (e .a) (chosen t (e .a))) (not-false _ (none .1 .1 .0));
       }))
 
+  -- MOVE and CLEAR have none of their own
   did-move : Of Move → Did t e (step t e .table)
   unfolding ruleFor move
   did-move of = becomes (of .done .after) (Did.move (of .kind) (of .operands .a) (of .operands .b) (of .operands .c))
@@ -138,6 +141,7 @@ module _ (t : Table) (e : Event) where
   in-reach : (p o : ℕ) → NoneApplies (outOfReach t p o) → InReach t p o
   in-reach p o none = record { named = none .0; own = not-false (ownedBy p o) (none .1 .0); live = not-false (isLive (t .heap) o) (none .1 .1 .0) }
 
+  -- LOAD of a field
   did-load : Of Load → Did t e (step t e .table)
   unfolding ruleFor load
   did-load of =
@@ -145,6 +149,7 @@ module _ (t : Table) (e : Event) where
       let reach = in-reach (e .a) (rootAt (t .heap) (e .a) (e .c)) (of .done .free) in
       becomes (of .done .after) (Did.load (of .kind) (range .a) (range .b) (range .c) (range .d) reach)
 
+  -- STORE into a field
   did-store : Of Store → Did t e (step t e .table)
   unfolding ruleFor store
   did-store of =
@@ -152,6 +157,7 @@ module _ (t : Table) (e : Event) where
       let reach = in-reach (e .a) (rootAt (t .heap) (e .a) (e .b)) (of .done .free) in
       becomes (of .done .after) (Did.store (of .kind) (range .a) (range .b) (range .c) (range .d) reach)
 
+  -- SEND: its four refusals
   did-send : Of Send → Did t e (step t e .table)
   unfolding ruleFor send
   did-send of =
@@ -198,6 +204,7 @@ module _ (t : Table) (e : Event) where
       go (Decrement from to o m n) q done =
           becomes (done .after) (Did.settle (of .kind) (record { place = of .operands .a; there = q; takes = done .free .0 }))
 
+  -- COLLECT: its one refusal
   did-collect : Of Collect → Did t e (step t e .table)
   unfolding ruleFor collectKeeping collectHolding
   did-collect of = becomes (of .done .after) (Did.collect (of .kind) (record { node = of .operands .a; whole = of .done .free .0 }))

@@ -77,9 +77,11 @@ fresh-good = record {
     cell : Cell
     cell = record { at = replicate NODES (record { held = Absent }) }
 
+-- formed
 pub fresh-formed : Formed freshTable
 fresh-formed = good-formed fresh-good
 
+-- in shape
 pub fresh-shape : fitsTable freshTable ≡ true
 fresh-shape = good-shape fresh-good
 
@@ -91,5 +93,6 @@ always keeps fresh es t accepted = kept keeps fresh-formed accepted fresh
 pub always-formed : Always Formed
 always-formed = always (λ t e formed accepted _. keeps-form t e formed accepted) fresh-formed
 
+-- and in shape
 pub always-shape : Always (λ t. fitsTable t ≡ true)
 always-shape = always (λ t e formed accepted _. keeps-shape t e formed accepted) fresh-shape

@@ -70,9 +70,11 @@ found entry message a = rw (entry, message) a
 -- ---- what an event writes, as an act
 
 module _ {t u : Table} {x p s : ℕ} {f : Entry} {y : Message} (formed : Formed t) (writes : Writes t u x p s f y) where
+  -- each entry is what the cells written hold
   entry-at : (q o : ℕ) → entryAt u q o ≡ entryAt (withEntry t p x f) q o
   entry-at q o = rw (writes .cells)
 
+  -- each message is what the air written holds
   message-at : (a : ℕ) → messageAt u a ≡ messageAt (withMessage t s y) a
   message-at a = rw (writes .air)
 
