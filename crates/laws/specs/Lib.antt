@@ -20,11 +20,13 @@ pub mod LawB
 pub mod LawC
 pub mod LawD
 pub mod LawE
+pub mod LawEHolds
 pub mod Lawful
 pub mod LawfulKept
 pub mod Link
 pub mod LinkCollect
 pub mod Linked
+pub mod OneMore
 pub mod Passings
 pub mod Reclaimed
 pub mod Sequence
