@@ -1,5 +1,6 @@
 pub mod Adding
 pub mod Bridge
+pub mod Homeward
 pub mod Kept
 pub mod Leaf
 pub mod Rules

@@ -26,6 +26,7 @@ pub mod LawfulKept
 pub mod Link
 pub mod LinkCollect
 pub mod Linked
+pub mod OnTheWayHome
 pub mod OneMore
 pub mod Passings
 pub mod Reclaimed
