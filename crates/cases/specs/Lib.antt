@@ -1,3 +1,4 @@
+pub mod Determined
 pub mod Edges
 pub mod Errors
 pub mod FourBytes
