@@ -1,4 +1,6 @@
+pub mod Alive
 pub mod Change
+pub mod Holding
 pub mod LawA
 pub mod LawB
 pub mod LawC
