@@ -6,5 +6,8 @@ pub mod LawB
 pub mod LawC
 pub mod LawD
 pub mod LawE
+pub mod Nobody
 pub mod Sequence
 pub mod Sound
+pub mod Starts
+pub mod UsedKept
