@@ -1,5 +1,6 @@
 pub mod Alive
 pub mod Change
+pub mod Collected
 pub mod Holding
 pub mod LawA
 pub mod LawB
