@@ -1,6 +1,9 @@
 pub mod Alive
+pub mod Answered
 pub mod Change
 pub mod Collected
+pub mod Did
+pub mod DidLaws
 pub mod Holding
 pub mod LawA
 pub mod LawB
