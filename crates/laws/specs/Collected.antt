@@ -103,8 +103,8 @@ module _ (t : Table) (p : ℕ) where
         go false b false own gone held = unused-cell (others own) (eqb-false (owner o) p own) held
 
     -- at every other node the entry is as it was
-    pub entry-elsewhere : (q : ℕ) → q ≢ p → entryAt (collected t p) q o ≡ entryAt t q o
-    entry-elsewhere q other = go (cellAt (collected t p) o) changed
+    pub collected-elsewhere : (q : ℕ) → q ≢ p → entryAt (collected t p) q o ≡ entryAt t q o
+    collected-elsewhere q other = go (cellAt (collected t p) o) changed
       where
         elsewhere : (e : Entry) → entryIn (cellWith (cellAt t o) p e) q ≡ entryAt t q o
         elsewhere e = ap (λ (x : Slot). x .held) (getD-set-other (cellAt t o .at) p q (record { held = e }) _ other)
@@ -115,8 +115,8 @@ module _ (t : Table) (p : ℕ) where
         go c (unused-cell stays away idle) = elsewhere (setUnused (entryAt t p o))
 
     -- where p holds an object that is not reclaimed, or owns it, every entry of it is as it was
-    pub entry-kept : isGone t p o ≡ false → (owner o ≡ p) ⊎ (isHeldAt t p o ≡ true) → (q : ℕ) → entryAt (collected t p) q o ≡ entryAt t q o
-    entry-kept stays why q = go (cellAt (collected t p) o) changed
+    pub collected-kept : isGone t p o ≡ false → (owner o ≡ p) ⊎ (isHeldAt t p o ≡ true) → (q : ℕ) → entryAt (collected t p) q o ≡ entryAt t q o
+    collected-kept stays why q = go (cellAt (collected t p) o) changed
       where
         go : (c : Cell) → Changed c → entryIn c q ≡ entryAt t q o
         go c (kept-cell _) = refl
@@ -124,9 +124,9 @@ module _ (t : Table) (p : ℕ) where
         go c (unused-cell _ away idle) = absurd (⊎-elim away (λ held. false≢true (sym idle ∙ held)) why)
 
     -- a directory at p after was one before, and its object is not reclaimed
-    pub directory-after : Formed t → p < NODES → isDirectory (entryAt (collected t p) p o) ≡ true
+    pub collected-directory : Formed t → p < NODES → isDirectory (entryAt (collected t p) p o) ≡ true
         → (isDirectory (entryAt t p o) ≡ true) × (isGone t p o ≡ false)
-    directory-after formed node = go (cellAt (collected t p) o) changed
+    collected-directory formed node = go (cellAt (collected t p) o) changed
       where
         long : p < length (cellAt t o .at)
         long = omega (arith, formed .entries o lt)

@@ -1,6 +1,7 @@
 pub mod Alive
 pub mod Answered
 pub mod Change
+pub mod CollectSafe
 pub mod Collected
 pub mod Did
 pub mod DidLaws

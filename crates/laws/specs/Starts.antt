@@ -107,3 +107,13 @@ reclaimed-is t p o = (
     unmarked : (b : Bool) → (b ≡ true → ⊥) → not b ≡ true
     unmarked true never = absurd (never refl)
     unmarked false never = refl
+
+-- a live object of p that is not reclaimed is reached
+pub stays-kept : (t : Table) (p o : ℕ) → owner o ≡ p → isLive (t .heap) o ≡ true → isReclaimed t p (kept t p) o ≡ false → Kept t p o
+stays-kept t p o own live stays = go (isMarked (kept t p) o) refl
+  where
+    go : (b : Bool) → isMarked (kept t p) o ≡ b → Kept t p o
+    go true on = kept-is t p o .0 on
+    go false off =
+        let unreached : Kept t p o → ⊥ = λ way. true≢false (sym (kept-is t p o .1 way) ∙ off) in
+        absurd (true≢false (sym (reclaimed-is t p o .1 (record { own = own; live = live; unreached = unreached })) ∙ stays))
