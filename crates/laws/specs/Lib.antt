@@ -5,13 +5,17 @@ pub mod CollectSafe
 pub mod Collected
 pub mod Did
 pub mod DidLaws
+pub mod Growing
+pub mod HeapKeeps
 pub mod Holding
 pub mod LawA
 pub mod LawB
 pub mod LawC
 pub mod LawD
 pub mod LawE
+pub mod NewOrSame
 pub mod Nobody
+pub mod Presence
 pub mod Sequence
 pub mod Sound
 pub mod Starts
