@@ -18,7 +18,7 @@ use Rattle.entry.specs.declared.Entry.the-variants.{Absent, AtOwner, Elsewhere}
 use Rattle.entry.specs.AtNode.{setUnused}
 use Rattle.entry.specs.Entry.{isDirectory, isPresent}
 use Rattle.heap.specs.declared.Object.{Object}
-use Rattle.heap.specs.Heap.{idle, isLive, objectAt}
+use Rattle.heap.specs.Heap.{idle, isLive, objectAt, rootAt}
 use Rattle.heap.specs.Walk.{Marks, ownedBy}
 use Rattle.table.specs.declared.Cell.{Cell}
 use Rattle.table.specs.declared.Slot.{Slot}
@@ -71,6 +71,11 @@ module _ (t : Table) (p : ℕ) where
       go : (b : Bool) → isGone t p o ≡ b → (isGone t p o ≡ false) × (isLive (t .heap) o ≡ true)
       go true e = absurd (false≢true (sym (object-goes o lt e) ∙ live))
       go false e = (e, sym (ap (λ (x : Object). x .live) (object-stays o lt e)) ∙ live)
+
+  -- roots stay
+  pub root-stays : (q r : ℕ) → rootAt (collected t p .heap) q r ≡ rootAt (t .heap) q r
+  unfolding heapCollected
+  root-stays q r = refl
 
   -- ---- entries
 

@@ -1,6 +1,8 @@
+pub mod AirKeeps
 pub mod Alive
 pub mod Answered
 pub mod Change
+pub mod CollectKeeps
 pub mod CollectSafe
 pub mod Collected
 pub mod Did
