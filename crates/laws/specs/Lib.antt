@@ -15,10 +15,16 @@ pub mod LawB
 pub mod LawC
 pub mod LawD
 pub mod LawE
+pub mod Link
+pub mod LinkCollect
+pub mod Linked
 pub mod NewOrSame
 pub mod Nobody
 pub mod Presence
+pub mod Reclaimed
 pub mod Sequence
+pub mod ShapeLaws
 pub mod Sound
 pub mod Starts
+pub mod TableLaws
 pub mod UsedKept
