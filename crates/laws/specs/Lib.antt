@@ -9,6 +9,7 @@ pub mod Did
 pub mod DidLaws
 pub mod Growing
 pub mod HeapKeeps
+pub mod HeldAfter
 pub mod Holding
 pub mod LawA
 pub mod LawB
