@@ -7,6 +7,7 @@ pub mod CollectSafe
 pub mod Collected
 pub mod Did
 pub mod DidLaws
+pub mod FreshNumber
 pub mod Growing
 pub mod HeapKeeps
 pub mod HeldAfter
