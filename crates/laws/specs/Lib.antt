@@ -30,3 +30,4 @@ pub mod Sound
 pub mod Starts
 pub mod TableLaws
 pub mod UsedKept
+pub mod WholeHeap
