@@ -7,11 +7,14 @@ pub mod CollectSafe
 pub mod Collected
 pub mod Did
 pub mod DidLaws
+pub mod EntryFits
 pub mod FreshNumber
+pub mod Good
 pub mod Growing
 pub mod HeapKeeps
 pub mod HeldAfter
 pub mod Holding
+pub mod KeepsShape
 pub mod LawA
 pub mod LawB
 pub mod LawC
@@ -31,3 +34,4 @@ pub mod Starts
 pub mod TableLaws
 pub mod UsedKept
 pub mod WholeHeap
+pub mod Writes

@@ -1,32 +1,30 @@
 -- Every accepted event but COLLECT writes at most one entry and one place, of one object, by one act; so it is linked to its act on every
 -- object. LinkCollect.antt has COLLECT, and the link of every accepted event. Assumes nothing.
 use mathlib.Core.Path.{_≡_, refl, sym, _∙_}
-use mathlib.Core.Bool.{Bool, true, false, true≢false}
+use mathlib.Core.Bool.{Bool, true, false}
 use mathlib.Core.Logic.{_≢_}
 use Prim.Native.Nat.{ℕ, _<_}
 use native.Mathlib.Decide.{ℕ-discrete}
 use native.Mathlib.Omega.{arith}
 use lib.Dec.{eqb}
-use lib.Seq.{set-getD}
 use borrow.Author.Tests.{eq-eqb, ne-eqb}
 use Rattle.terms.specs.Choose.{if_then_else_}
-use Rattle.terms.specs.CountedLaws.{lowest-passes}
-use Rattle.terms.specs.Limits.{NODES, OBJECTS, PLACES}
+use Rattle.terms.specs.Limits.{OBJECTS, PLACES}
 use Rattle.entry.specs.declared.ReturnCount.{ReturnCount}
 use Rattle.entry.specs.declared.Weight.{Weight}
 use Rattle.entry.specs.declared.Directory.{Directory}
 use Rattle.entry.specs.declared.Remote.{Remote}
 use Rattle.entry.specs.declared.Entry.{Entry}
 use Rattle.entry.specs.declared.Entry.the-variants.{Absent, AtOwner, Elsewhere}
-use Rattle.entry.specs.AtNode.{received, sent, settled}
+use Rattle.entry.specs.AtNode.{sent, settled}
 use Rattle.entry.specs.Entry.{none, weight}
 use Rattle.heap.specs.declared.Heap.{Heap}
 use Rattle.heap.specs.Heap.{rootAt}
 use Rattle.table.specs.declared.Message.{Message}
-use Rattle.table.specs.declared.Message.the-variants.{Empty, Reference, Decrement}
+use Rattle.table.specs.declared.Message.the-variants.{Empty, Decrement}
 use Rattle.table.specs.declared.Table.{Table}
 use Rattle.table.specs.Formed.{Formed}
-use Rattle.table.specs.Table.{emptyPlace, entryAt, isDecrementOf, isEmpty, messageAt, withEntry, withHeap, withMessage}
+use Rattle.table.specs.Table.{emptyPlace, entryAt, isDecrementOf, messageAt, withEntry, withHeap, withMessage}
 use Rattle.step.specs.declared.Event.{Event}
 use Rattle.step.specs.Drop.{lastWords}
 use Rattle.step.specs.Event.{SEND, RECEIVE, SETTLE, DROP}
@@ -38,7 +36,8 @@ use Rattle.laws.specs.Change.{Act, isOf}
 use Rattle.laws.specs.Did.{DropFree, ReceiveFree, SendFree, SettleFree}
 use Rattle.laws.specs.LawE.{isSendOf, isSettleOf}
 use Rattle.laws.specs.Linked.{Linked, isSent, isSettled}
-use Rattle.laws.specs.ShapeLaws.{Shaped, decrement-way, reference-way, root-object}
+use Rattle.laws.specs.ShapeLaws.{Shaped}
+use Rattle.laws.specs.Writes.{Writes, empty-there, writes-clear, writes-drop, writes-receive, writes-send, writes-settle}
 use Rattle.laws.specs.TableLaws.{entry-elsewhere, entry-of-another, entry-there, message-elsewhere, message-there}
 
 -- ---- an act with its two tests
@@ -68,15 +67,7 @@ found : {o p : ℕ} {e d f : Entry} {x w y : Message} {sending settling : Bool} 
     → Acts o p d w f y sending settling → Acts o p e x f y sending settling
 found entry message a = rw (entry, message) a
 
--- ---- what an event writes
-
--- from t to u, entry f of object x at node p and message y in place s are written, and no others
-pub record Writes (t u : Table) (x p s : ℕ) (f : Entry) (y : Message) : Type 0 where
-  pub object : x < OBJECTS
-  pub node : p < NODES
-  pub place : s < PLACES
-  pub cells : u .cells ≡ withEntry t p x f .cells
-  pub air : u .air ≡ withMessage t s y .air
+-- ---- what an event writes, as an act
 
 module _ {t u : Table} {x p s : ℕ} {f : Entry} {y : Message} (formed : Formed t) (writes : Writes t u x p s f y) where
   entry-at : (q o : ℕ) → entryAt u q o ≡ entryAt (withEntry t p x f) q o
@@ -124,15 +115,6 @@ aside : {o p : ℕ} {t : Table} {ev : Event} {e : Entry} {x y : Message} → Nei
     → Acts o p e x e y (isSendOf o t ev) (isSettleOf o t ev)
 aside n old new = acts n (Act.other old new) refl refl
 
--- the lowest empty place is empty
-pub empty-there : (t : Table) → emptyPlace t < PLACES → messageAt t (emptyPlace t) ≡ Empty
-empty-there t room = go (messageAt t (emptyPlace t)) (lowest-passes PLACES (λ s. isEmpty (messageAt t s)) room)
-  where
-    go : (x : Message) → isEmpty x ≡ true → x ≡ Empty
-    go Empty e = refl
-    go (Reference from to o) e = absurd (true≢false (sym e))
-    go (Decrement from to o m n) e = absurd (true≢false (sym e))
-
 -- what a receipt leaves is empty or of the same object
 reply-of : (o from to x : ℕ) (e : Entry) → o ≢ x → isOf o (reply from to x e) ≡ false
 reply-of o from to x Absent ne = refl
@@ -150,8 +132,9 @@ module _ {t : Table} (formed : Formed t) (shape : Shaped t) {e : Event} where
   pub link-send : e .kind ≡ SEND → SendFree t (e .a) (e .b) (e .c) → (o : ℕ) → o < OBJECTS
       → Linked t e (counting t (withSent t (e .a) (e .c) (rootAt (t .heap) (e .a) (e .b)))) o
   link-send kind free =
+      let x = rootAt (t .heap) (e .a) (e .b) in
       let room = empty-there t (free .room) in
-      linked-by formed writes e
+      linked-by formed (writes-send shape free) e
       (found refl room (record {
         act = Act.sends (free .away) (free .receiver) (free .takes);
         sent = rw (kind, eq-eqb x x refl);
@@ -160,41 +143,22 @@ module _ {t : Table} (formed : Formed t) (shape : Shaped t) {e : Event} where
       (λ o ne.
       let apart = ne-eqb x o (λ q. ne (sym q)) in
       found refl room (aside {t = t} {ev = e} (record { unsent = rw (kind, apart); unsettled = rw kind }) refl apart))
-    where
-      x : ℕ
-      x = rootAt (t .heap) (e .a) (e .b)
-
-      writes : Writes t (counting t (withSent t (e .a) (e .c) x)) x (e .a) (emptyPlace t)
-          (sent (e .a) (e .c) x (entryAt t (e .a) x) .entry) (Reference (e .a) (e .c) x)
-      writes = record {
-        object = root-object t shape (e .a) (e .b) (free .node) (free .root) (free .named);
-        node = free .node;
-        place = free .room;
-        cells = refl;
-        air = refl;
-      }
 
   -- RECEIVE: the reference leaves its place, perhaps for a decrement
   pub link-receive : {from to x : ℕ} → e .kind ≡ RECEIVE → ReceiveFree t (e .a) (e .b) from to x → (o : ℕ) → o < OBJECTS
       → Linked t e (counting t (withReceived t (e .a) (e .b) from to x)) o
   link-receive {from} {to} {x} kind free =
       let none : (o : ℕ) → Neither o t e = λ o. neither (rw kind) (rw kind) in
-      linked-by formed writes e
+      linked-by formed (writes-receive shape {r = e .b} free) e
       (found refl (free .there) (acts (none x) (Act.receives (free .takes)) refl refl))
       (λ o ne. found refl (free .there) (aside (none o) (ne-eqb x o (λ q. ne (sym q))) (reply-of o from to x (entryAt t to x) ne)))
-    where
-      writes : Writes t (counting t (withReceived t (e .a) (e .b) from to x)) x to (e .a)
-          (received from to x (entryAt t to x) .entry) (reply from to x (entryAt t to x))
-      writes =
-          let way = reference-way t shape (e .a) (free .place) (free .there) in
-          record { object = way .object; node = way .receiver; place = free .place; cells = refl; air = refl }
 
   -- SETTLE: the decrement leaves its place
   pub link-settle : {from to x : ℕ} {m : ReturnCount} {n : Weight} → e .kind ≡ SETTLE → SettleFree t (e .a) from to x m n → (o : ℕ) → o < OBJECTS
       → Linked t e (counting t (withSettled t (e .a) to x m n)) o
   link-settle {from} {to} {x} {m} {n} kind free =
       let there : (o : ℕ) → isDecrementOf o (messageAt t (e .a)) ≡ eqb x o = λ o. rw (free .there) in
-      linked-by formed writes e
+      linked-by formed (writes-settle shape free) e
       (found refl (free .there) (record {
         act = Act.settles (free .takes);
         sent = rw kind;
@@ -203,11 +167,6 @@ module _ {t : Table} (formed : Formed t) (shape : Shaped t) {e : Event} where
       (λ o ne.
       let apart = ne-eqb x o (λ q. ne (sym q)) in
       found refl (free .there) (aside {t = t} {ev = e} (record { unsent = rw kind; unsettled = rw (kind, there o, apart) }) apart refl))
-    where
-      writes : Writes t (counting t (withSettled t (e .a) to x m n)) x to (e .a) (settled m n (entryAt t to x) .entry) Empty
-      writes =
-          let way = decrement-way t shape (e .a) (free .place) (free .there) in
-          record { object = way .object; node = way .receiver; place = free .place; cells = refl; air = refl }
 
   -- DROP of a remote entry: its last words go into the empty place
   pub link-drop : {r : Remote} → e .kind ≡ DROP → DropFree t (e .a) (e .b) (Elsewhere r) → emptyPlace t < PLACES → (o : ℕ) → o < OBJECTS
@@ -215,29 +174,16 @@ module _ {t : Table} (formed : Formed t) (shape : Shaped t) {e : Event} where
   link-drop {r} kind free full =
       let none : (o : ℕ) → Neither o t e = λ o. neither (rw kind) (rw kind) in
       let room = empty-there t full in
-      linked-by formed writes e
+      linked-by formed (writes-drop free full) e
       (found (free .there) room (acts (none (e .b)) (Act.drops (free .idle)) refl refl))
       (λ o ne. found refl room (aside (none o) refl (ne-eqb (e .b) o (λ q. ne (sym q)))))
-    where
-      writes : Writes t (counting t (withEntry (withMessage t (emptyPlace t) (lastWords (e .a) (e .b) r)) (e .a) (e .b) Absent))
-          (e .b) (e .a) (emptyPlace t) Absent (lastWords (e .a) (e .b) r)
-      writes = record { object = free .object; node = free .node; place = full; cells = refl; air = refl }
 
   -- DROP of a directory: no place changes
   pub link-clear : {d : Directory} → e .kind ≡ DROP → DropFree t (e .a) (e .b) (AtOwner d) → (o : ℕ) → o < OBJECTS
       → Linked t e (counting t (withEntry t (e .a) (e .b) Absent)) o
   link-clear {d} kind free =
       let none : (o : ℕ) → Neither o t e = λ o. neither (rw kind) (rw kind) in
-      linked-by formed writes e (found (free .there) refl (acts (none (e .b)) (Act.clears (free .idle)) refl refl)) (λ o ne. acts (none o) Act.same refl refl)
-    where
-      writes : Writes t (counting t (withEntry t (e .a) (e .b) Absent)) (e .b) (e .a) 0 Absent (messageAt t 0)
-      writes = record {
-        object = free .object;
-        node = free .node;
-        place = omega arith;
-        cells = refl;
-        air = sym (set-getD (t .air) 0 (record { held = Empty }));
-      }
+      linked-by formed (writes-clear free) e (found (free .there) refl (acts (none (e .b)) (Act.clears (free .idle)) refl refl)) (λ o ne. acts (none o) Act.same refl refl)
 
 -- an event that changes roots and fields only
 pub link-heap : {t : Table} {h : Heap} {e : Event} → eqb (e .kind) SEND ≡ false → eqb (e .kind) SETTLE ≡ false → (o : ℕ)
