@@ -26,6 +26,7 @@ use Rattle.step.specs.Outcome.{by, valueOf}
 use Rattle.step.specs.Step.{common, oneMore, ruleFor, step}
 use Rattle.laws.specs.Answered.{NoneApplies, done, met, none-applies}
 use Rattle.laws.specs.Change.{isOf}
+use Rattle.laws.specs.DidLaws.{absent-is}
 use Rattle.laws.specs.HeapKeeps.{chosen-number, chosen-own}
 use Rattle.laws.specs.Holding.{WellHeld, sound-held, well-named}
 use Rattle.laws.specs.Nobody.{Bridge, Nobody}
@@ -41,12 +42,6 @@ pub record Unnamed (t : Table) (o : ℕ) : Type 0 where
   pub messages : (s : ℕ) → s < PLACES → isOf o (messageAt t s) ≡ false
 
 -- ---- an object that isn't live
-
--- where no entry stands
-absent-is : (e : Entry) → isAbsent e ≡ true → e ≡ Absent
-absent-is Absent h = refl
-absent-is (AtOwner d) h = absurd (false≢true h)
-absent-is (Elsewhere e) h = absurd (false≢true h)
 
 module _ {t : Table} (shape : Shaped t) (held : WellHeld t) (o : ℕ) (lt : o < OBJECTS) (dead : isLive (t .heap) o ≡ false) where
   -- it has no directory, and at the owner no other entry stands
