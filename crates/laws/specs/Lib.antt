@@ -25,6 +25,7 @@ pub mod LinkCollect
 pub mod Linked
 pub mod NewOrSame
 pub mod Nobody
+pub mod NotTorn
 pub mod Presence
 pub mod Reclaimed
 pub mod Sequence
