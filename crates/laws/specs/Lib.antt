@@ -8,6 +8,7 @@ pub mod Collected
 pub mod Did
 pub mod DidLaws
 pub mod EntryFits
+pub mod FreshHeld
 pub mod FreshNumber
 pub mod Good
 pub mod Growing

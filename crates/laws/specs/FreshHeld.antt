@@ -1,0 +1,41 @@
+-- In the fresh table all is held well: nothing is named and nothing is live. Assumes nothing.
+use mathlib.Core.Path.{_≡_, refl, sym, ap, _∙_}
+use mathlib.Core.Bool.{true, false, false≢true}
+use Prim.Native.Nat.{ℕ, _<_}
+use lib.ListN.{getD, getD-replicate}
+use Rattle.terms.specs.Limits.{NODES, OBJECTS, PLACES, ROOTS, NONE}
+use Rattle.entry.specs.declared.Entry.the-variants.{Absent}
+use Rattle.entry.specs.Entry.{isDirectory}
+use Rattle.heap.specs.declared.Object.{Object}
+use Rattle.heap.specs.declared.Roots.{Roots}
+use Rattle.heap.specs.Heap.{freshHeap, idle, isLive, rootAt}
+use Rattle.table.specs.declared.Cell.{Cell}
+use Rattle.table.specs.declared.Message.the-variants.{Empty}
+use Rattle.table.specs.declared.Place.{Place}
+use Rattle.table.specs.declared.Slot.{Slot}
+use Rattle.table.specs.Table.{entryAt, entryIn, freshTable, isReferenceOf, messageAt}
+use Rattle.laws.specs.Holding.{WellHeld, well-is}
+
+-- every root is empty
+fresh-root : (p r : ℕ) → p < NODES → r < ROOTS → rootAt freshHeap p r ≡ NONE
+fresh-root p r node root = ap (λ (x : Roots). getD (x .at) r 0) (getD-replicate NODES p _ _ node) ∙ getD-replicate ROOTS r NONE 0 root
+
+-- no object is live
+fresh-dead : (o : ℕ) → o < OBJECTS → isLive freshHeap o ≡ false
+fresh-dead o lt = ap (λ (x : Object). x .live) (getD-replicate OBJECTS o idle _ lt)
+
+-- no entry stands
+fresh-absent : (p o : ℕ) → p < NODES → o < OBJECTS → entryAt freshTable p o ≡ Absent
+fresh-absent p o node lt = ap (λ (c : Cell). entryIn c p) (getD-replicate OBJECTS o _ _ lt) ∙ ap (λ (x : Slot). x .held) (getD-replicate NODES p _ _ node)
+
+-- no message is in the air
+fresh-quiet : (s : ℕ) → s < PLACES → messageAt freshTable s ≡ Empty
+fresh-quiet s place = ap (λ (x : Place). x .held) (getD-replicate PLACES s _ _ place)
+
+pub fresh-held : WellHeld freshTable
+fresh-held = record {
+  roots = λ p r node root. rw (fresh-root p r node root);
+  fields = λ o f lt small live. absurd (false≢true (sym (fresh-dead o lt) ∙ live));
+  directories = λ p o node lt d. absurd (false≢true (rw (fresh-absent p o node lt) at d));
+  references = λ s o place h. absurd (false≢true (rw (fresh-quiet s place) at h));
+}
