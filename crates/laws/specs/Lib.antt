@@ -32,6 +32,8 @@ pub mod Reclaimed
 pub mod Sequence
 pub mod ShapeLaws
 pub mod Sound
+pub mod SoundTest
+pub mod SoundTestLaws
 pub mod Starts
 pub mod TableLaws
 pub mod UsedKept
