@@ -91,7 +91,6 @@ pub record Met (t : Table) (e : Event) : Type 0 where
 -- and what its rule says of it
 pub record Done (t : Table) (e : Event) (rule : Rule) : Type 0 where
   pub free : NoneApplies (rule .refusals)
-  pub accepts : rule .effect .answer ≡ ACCEPTED
   pub after : step t e .table ≡ counting t (rule .effect .table)
 
 -- counting changes no answer
@@ -128,8 +127,9 @@ module _ (t : Table) (e : Event) (accepted : step t e .answer ≡ ACCEPTED) wher
       let by-effect = past .1 in
       record {
         free = past .0;
-        accepts = sym (ap (λ (x : Outcome). x .answer) by-effect) ∙ rule-answer;
-        after = ap (λ (x : Outcome). x .table) (past-common .1) ∙ counts (by t (ruleOf t e)) rule-answer ∙ ap (λ (x : Outcome). counting t (x .table)) by-effect;
+        after =
+            ap (λ (x : Outcome). x .table) (past-common .1) ∙ counts (by t (ruleOf t e)) rule-answer
+            ∙ ap (λ (x : Outcome). counting t (x .table)) by-effect;
       }
     where
       counts : (x : Outcome) → x .answer ≡ ACCEPTED → oneMore (t .count) x .table ≡ counting t (x .table)
@@ -148,18 +148,21 @@ receive-leaves t s r Empty ne = refl
 receive-leaves t s r (Reference from to o) ne = absurd (ne refl)
 receive-leaves t s r (Decrement from to o m n) ne = refl
 
+-- SETTLE is refused outright for an empty place or a reference
 settle-leaves : (t : Table) (s : ℕ) (m : Message) → LeavesRefused t (settleOf t s m)
 unfolding settleOf
 settle-leaves t s Empty ne = refl
 settle-leaves t s (Reference from to o) ne = refl
 settle-leaves t s (Decrement from to o m n) ne = absurd (ne refl)
 
+-- DROP is refused outright where no entry stands
 drop-leaves : (t : Table) (p o : ℕ) (e : Entry) → LeavesRefused t (dropOf t p o e)
 unfolding dropOf
 drop-leaves t p o Absent ne = refl
 drop-leaves t p o (AtOwner d) ne = absurd (ne refl)
 drop-leaves t p o (Elsewhere e) ne = absurd (ne refl)
 
+-- whichever the kind
 rule-leaves : (t : Table) (e : Event) (k : Kind) → LeavesRefused t (ruleFor k t e)
 unfolding ruleFor new move clear load store send collectKeeping collectHolding
 rule-leaves t e New ne = absurd (ne refl)

@@ -31,6 +31,7 @@ use Rattle.laws.specs.Answered.{counting}
 
 -- ---- what each kind was free of
 
+-- NEW: root r of p is empty, an object is free, and no directory stands for it
 pub record NewFree (t : Table) (p r : ℕ) : Type 0 where
   pub node : p < NODES
   pub root : r < ROOTS
@@ -44,6 +45,7 @@ pub record InReach (t : Table) (p o : ℕ) : Type 0 where
   pub own : ownedBy p o ≡ true
   pub live : isLive (t .heap) o ≡ true
 
+-- SEND: root r of p holds an object that p may send to another node, and there is a place for it
 pub record SendFree (t : Table) (p r q : ℕ) : Type 0 where
   pub node : p < NODES
   pub root : r < ROOTS
@@ -69,6 +71,7 @@ pub record SettleFree (t : Table) (s from to o : ℕ) (m : ReturnCount) (n : Wei
   pub there : messageAt t s ≡ Decrement from to o m n
   pub takes : refuses (settled m n (entryAt t to o)) ≡ false
 
+-- COLLECT: all that is kept is live, and p holds nothing that it may not
 pub record CollectFree (t : Table) (p : ℕ) : Type 0 where
   pub node : p < NODES
   pub whole : collectTorn t p (kept t p) (heldAt t p (kept t p)) ≡ false
@@ -95,7 +98,8 @@ pub data Did (t : Table) (e : Event) : Table → Type 0 where
       → InReach t (e .a) (rootAt (t .heap) (e .a) (e .b))
       → Did t e (counting t (withHeap t (withField (t .heap) (rootAt (t .heap) (e .a) (e .b)) (e .c) (rootAt (t .heap) (e .a) (e .d)))))
   send : e .kind ≡ SEND → SendFree t (e .a) (e .b) (e .c) → Did t e (counting t (withSent t (e .a) (e .c) (rootAt (t .heap) (e .a) (e .b))))
-  receive : {from to o : ℕ} → e .kind ≡ RECEIVE → ReceiveFree t (e .a) (e .b) from to o → Did t e (counting t (withReceived t (e .a) (e .b) from to o))
+  receive : {from to o : ℕ} → e .kind ≡ RECEIVE → ReceiveFree t (e .a) (e .b) from to o
+      → Did t e (counting t (withReceived t (e .a) (e .b) from to o))
   settle : {from to o : ℕ} {m : ReturnCount} {n : Weight} → e .kind ≡ SETTLE → SettleFree t (e .a) from to o m n
       → Did t e (counting t (withSettled t (e .a) to o m n))
   collect : e .kind ≡ COLLECT → CollectFree t (e .a) → Did t e (counting t (withCollected t (e .a) (kept t (e .a)) (heldAt t (e .a) (kept t (e .a)))))

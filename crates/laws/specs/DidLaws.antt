@@ -78,6 +78,7 @@ pub record Below (r : Ranges) (e : Event) : Type 0 where
   pub c : e .c < r .c
   pub d : e .d < r .d
 
+-- so it is where the operands fit
 pub below : (r : Ranges) (e : Event) → fitsRanges r e ≡ true → Below r e
 below r e fits =
     let one = and-passes (ltb (e .a) (r .a)) _ .0 fits in
@@ -114,6 +115,7 @@ module _ (t : Table) (e : Event) where
   becomes : {u : Table} → step t e .table ≡ u → Did t e u → Did t e (step t e .table)
   becomes q d = subst (λ u. Did t e u) (sym q) d
 
+  -- NEW: its three refusals
   did-new : Of New → Did t e (step t e .table)
   unfolding ruleFor new
   did-new of =
@@ -126,6 +128,7 @@ module _ (t : Table) (e : Event) where
         unlisted = absent-is (entryAt t (e .a) (chosen t (e .a))) (not-false _ (none .1 .1 .0));
       }))
 
+  -- MOVE and CLEAR have none of their own
   did-move : Of Move → Did t e (step t e .table)
   unfolding ruleFor move
   did-move of = becomes (of .done .after) (Did.move (of .kind) (of .operands .a) (of .operands .b) (of .operands .c))
@@ -138,18 +141,23 @@ module _ (t : Table) (e : Event) where
   in-reach : (p o : ℕ) → NoneApplies (outOfReach t p o) → InReach t p o
   in-reach p o none = record { named = none .0; own = not-false (ownedBy p o) (none .1 .0); live = not-false (isLive (t .heap) o) (none .1 .1 .0) }
 
+  -- LOAD of a field
   did-load : Of Load → Did t e (step t e .table)
   unfolding ruleFor load
   did-load of =
       let range = of .operands in
-      becomes (of .done .after) (Did.load (of .kind) (range .a) (range .b) (range .c) (range .d) (in-reach (e .a) (rootAt (t .heap) (e .a) (e .c)) (of .done .free)))
+      let reach = in-reach (e .a) (rootAt (t .heap) (e .a) (e .c)) (of .done .free) in
+      becomes (of .done .after) (Did.load (of .kind) (range .a) (range .b) (range .c) (range .d) reach)
 
+  -- STORE into a field
   did-store : Of Store → Did t e (step t e .table)
   unfolding ruleFor store
   did-store of =
       let range = of .operands in
-      becomes (of .done .after) (Did.store (of .kind) (range .a) (range .b) (range .c) (range .d) (in-reach (e .a) (rootAt (t .heap) (e .a) (e .b)) (of .done .free)))
+      let reach = in-reach (e .a) (rootAt (t .heap) (e .a) (e .b)) (of .done .free) in
+      becomes (of .done .after) (Did.store (of .kind) (range .a) (range .b) (range .c) (range .d) reach)
 
+  -- SEND: its four refusals
   did-send : Of Send → Did t e (step t e .table)
   unfolding ruleFor send
   did-send of =
@@ -196,6 +204,7 @@ module _ (t : Table) (e : Event) where
       go (Decrement from to o m n) q done =
           becomes (done .after) (Did.settle (of .kind) (record { place = of .operands .a; there = q; takes = done .free .0 }))
 
+  -- COLLECT: its one refusal
   did-collect : Of Collect → Did t e (step t e .table)
   unfolding ruleFor collectKeeping collectHolding
   did-collect of = becomes (of .done .after) (Did.collect (of .kind) (record { node = of .operands .a; whole = of .done .free .0 }))
@@ -212,7 +221,8 @@ module _ (t : Table) (e : Event) where
       go Absent q done = absurd (true≢false (done .free .0))
       go (AtOwner d) q done = becomes (done .after) (Did.drop-directory (of .kind) (free (AtOwner d) q (done .free .0)))
       go (Elsewhere x) q done =
-          becomes (done .after) (Did.drop-remote (of .kind) (free (Elsewhere x) q (done .free .0)) (ltb-true (emptyPlace t) PLACES (not-false _ (done .free .1 .0))))
+          let room = ltb-true (emptyPlace t) PLACES (not-false _ (done .free .1 .0)) in
+          becomes (done .after) (Did.drop-remote (of .kind) (free (Elsewhere x) q (done .free .0)) room)
 
   -- whichever kind it is; none of its operands is in range where it is unknown
   did-kind : (k : Kind) → Of k → Did t e (step t e .table)

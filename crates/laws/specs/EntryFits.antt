@@ -31,12 +31,14 @@ pub record DirectoryParts (d : Directory) : Type 0 where
   pub count : d .rc ≤ MOST
   pub returns : fitsDirectoryReturns (d .«msg_ctr») ≡ true
 
+-- taken apart
 pub directory-parts : (d : Directory) → fitsDirectory d ≡ true → DirectoryParts d
 unfolding fitsDirectory
 directory-parts d fits =
     let p = and-passes (leb (d .rc) MOST) (fitsDirectoryReturns (d .«msg_ctr»)) .0 fits in
     record { count = leb-true (d .rc) MOST (p .0); returns = p .1 }
 
+-- put together
 pub directory-fits : (d : Directory) → DirectoryParts d → fitsDirectory d ≡ true
 unfolding fitsDirectory
 directory-fits d parts = rw (le-leb (d .rc) MOST (parts .count), parts .returns)
@@ -49,6 +51,7 @@ pub record RemoteParts (e : Remote) : Type 0 where
   pub positive : 0 < e .«ref_weight» .0
   pub weight : e .«ref_weight» .0 ≤ MOST
 
+-- taken apart
 pub remote-parts : (e : Remote) → fitsRemote e ≡ true → RemoteParts e
 unfolding fitsRemote
 remote-parts e fits =
@@ -64,6 +67,7 @@ remote-parts e fits =
       weight = leb-true (e .«ref_weight» .0) MOST (four .1);
     }
 
+-- put together
 pub remote-fits : (e : Remote) → RemoteParts e → fitsRemote e ≡ true
 unfolding fitsRemote
 remote-fits e parts = rw (
@@ -82,11 +86,13 @@ either-way P false first second = second
 -- ---- the acts on a directory
 
 module _ (d : Directory) (parts : DirectoryParts d) where
+  -- RC + 1, below its limit
   directory-sent : DirectoryParts (directorySent d .entry)
   unfolding directorySent
   directory-sent = either-way (λ (a : DirectoryAct). DirectoryParts (a .entry)) (ltb (d .rc) MOST)
       (λ low. record { count = omega (arith, ltb-true (d .rc) MOST low); returns = parts .returns }) parts
 
+  -- MsgCtr - 1, within its range
   directory-came-home : DirectoryParts (directoryCameHome d .entry)
   unfolding directoryCameHome
   directory-came-home =
@@ -97,6 +103,7 @@ module _ (d : Directory) (parts : DirectoryParts d) where
         returns = and-passes (fitsDirectoryReturns c) (fitsDirectoryReturns (fewer c)) .0 in-range .1;
       }) parts
 
+  -- RC falls, and MsgCtr + m stays within its range
   directory-settled : (m : ReturnCount) (n : Weight) → DirectoryParts (directorySettled d m n .entry)
   unfolding directorySettled
   directory-settled m n =
@@ -118,6 +125,7 @@ record Stays (e f : Remote) : Type 0 where
   parent : f .parent ≡ e .parent
 
 module _ (e : Remote) (parts : RemoteParts e) where
+  -- nothing changes
   as-it-was : Stays e e
   as-it-was = record { parts = parts; parent = refl }
 
@@ -135,17 +143,20 @@ module _ (e : Remote) (parts : RemoteParts e) where
     parent = refl;
   }
 
+  -- no number changes
   remote-unused : Stays e (remoteSetUnused e)
   remote-unused = record {
     parts = record { count = parts .count; parent = parts .parent; returns = parts .returns; positive = parts .positive; weight = parts .weight };
     parent = refl;
   }
 
+  -- RC + 1, below its limit
   remote-sent : Stays e (remoteSent e .entry)
   unfolding remoteSent
   remote-sent = either-way (λ (a : RemoteAct). Stays e (a .entry)) (ltb (e .rc) MOST)
       (λ low. recounted (e .rc + 1) (e .«msg_ctr») (omega (arith, ltb-true (e .rc) MOST low)) (parts .returns)) as-it-was
 
+  -- MsgCtr + 1, within its range
   remote-sent-home : Stays e (remoteSentHome e .entry)
   unfolding remoteSentHome
   remote-sent-home =
@@ -153,14 +164,17 @@ module _ (e : Remote) (parts : RemoteParts e) where
       either-way (λ (a : RemoteAct). Stays e (a .entry)) (stays fitsReturns c (more c))
       (λ in-range. recounted (e .rc) (more c) (parts .count) (and-passes (fitsReturns c) (fitsReturns (more c)) .0 in-range .1)) as-it-was
 
+  -- RefWeight + 1, below its limit, or as it was
   remote-received : (sender : ℕ) → Stays e (remoteReceivedAgain e sender .entry)
   unfolding remoteReceivedAgain
   remote-received sender =
       let w = e .«ref_weight» .0 in
       either-way (λ (a : RemoteAct). Stays e (a .entry)) (not (eqb (e .parent) sender))
       (λ another. weighed w (parts .positive) (parts .weight))
-      (either-way (λ (a : RemoteAct). Stays e (a .entry)) (ltb w MOST) (λ low. weighed (w + 1) (omega arith) (omega (arith, ltb-true w MOST low))) as-it-was)
+      (either-way (λ (a : RemoteAct). Stays e (a .entry)) (ltb w MOST)
+      (λ low. weighed (w + 1) (omega arith) (omega (arith, ltb-true w MOST low))) as-it-was)
 
+  -- RC falls, and MsgCtr + m stays within its range
   remote-settled : (m : ReturnCount) (n : Weight) → Stays e (remoteSettled e m n .entry)
   unfolding remoteSettled
   remote-settled m n =
@@ -180,7 +194,8 @@ module _ (node o : ℕ) where
   at-owner d fits = let p = and-passes (eqb node (owner o)) (fitsDirectory d) .0 fits in (p .0, directory-parts d (p .1))
 
   -- so does one that its act changed
-  directory-kept : (d f : Directory) → fitsEntry node o (AtOwner d) ≡ true → (DirectoryParts d → DirectoryParts f) → fitsEntry node o (AtOwner f) ≡ true
+  directory-kept : (d f : Directory) → fitsEntry node o (AtOwner d) ≡ true → (DirectoryParts d → DirectoryParts f)
+      → fitsEntry node o (AtOwner f) ≡ true
   unfolding fitsEntry
   directory-kept d f fits keeps = let p = at-owner d fits in rw (p .0, directory-fits f (keeps (p .1)))
 
@@ -190,6 +205,7 @@ module _ (node o : ℕ) where
     pub under : eqb (e .parent) node ≡ false
     pub parts : RemoteParts e
 
+  -- taken apart
   pub away : (e : Remote) → fitsEntry node o (Elsewhere e) ≡ true → Away e
   unfolding fitsEntry
   away e fits =
@@ -197,6 +213,7 @@ module _ (node o : ℕ) where
       let two = and-passes (not (eqb (e .parent) node)) (fitsRemote e) .0 (one .1) in
       record { elsewhere = not-true (eqb node (owner o)) (one .0); under = not-true (eqb (e .parent) node) (two .0); parts = remote-parts e (two .1) }
 
+  -- put together
   pub away-fits : (e : Remote) → Away e → fitsEntry node o (Elsewhere e) ≡ true
   unfolding fitsEntry
   away-fits e a = rw (a .elsewhere, a .under, remote-fits e (a .parts))
@@ -219,7 +236,8 @@ module _ (node o : ℕ) where
       (λ home. remote-kept e (remoteSentHome e .entry) fits (remote-sent-home e)) (remote-kept e (remoteSent e .entry) fits (remote-sent e))) fits
 
   -- RECEIVE
-  pub received-fits : (from : ℕ) (e : Entry) → from < NODES → from ≢ node → fitsEntry node o e ≡ true → fitsEntry node o (received from node o e .entry) ≡ true
+  pub received-fits : (from : ℕ) (e : Entry) → from < NODES → from ≢ node → fitsEntry node o e ≡ true
+      → fitsEntry node o (received from node o e .entry) ≡ true
   unfolding received
   received-fits from Absent sender apart fits = go (eqb node (owner o)) refl
     where

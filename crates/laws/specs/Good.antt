@@ -28,28 +28,34 @@ use Rattle.laws.specs.TableLaws.{set-all}
 
 -- ---- the parts
 
+-- four fields, each empty or a name, and empty where the object isn't live
 pub record GoodObject (x : Object) : Type 0 where
   pub size : length (x .fields) ≡ FIELDS
   pub fits : fitsObject x ≡ true
 
+-- eight roots, each empty or a name
 pub record GoodRoots (x : Roots) : Type 0 where
   pub size : length (x .at) ≡ ROOTS
   pub fits : fitsRoots x ≡ true
 
+-- an entry of object o for each node, each in shape
 pub record GoodCell (o : ℕ) (c : Cell) : Type 0 where
   pub size : length (c .at) ≡ NODES
   pub fits : (p : ℕ) → p < NODES → fitsEntry p o (entryIn c p) ≡ true
 
+-- 64 objects and eight nodes' roots
 pub record GoodHeap (h : Heap) : Type 0 where
   pub objects : length (h .objects) ≡ OBJECTS
   pub object : (o : ℕ) → o < OBJECTS → GoodObject (objectAt h o)
   pub nodes : length (h .roots) ≡ NODES
   pub roots : (p : ℕ) → p < NODES → GoodRoots (rootsAt h p)
 
+-- a cell for each object
 pub record GoodCells (cs : List Cell) : Type 0 where
   pub size : length cs ≡ OBJECTS
   pub cell : (o : ℕ) → o < OBJECTS → GoodCell o (getD cs o (record { at = [] }))
 
+-- 64 places, each empty or with a message in shape
 pub record GoodAir (ps : List Place) : Type 0 where
   pub size : length ps ≡ PLACES
   pub fits : (s : ℕ) → s < PLACES → fitsMessage (getD ps s (record { held = Empty }) .held) ≡ true
@@ -63,6 +69,7 @@ pub record Good (t : Table) : Type 0 where
 
 -- ---- the whole
 
+-- put together
 pub is-good : (t : Table) → Formed t → Shaped t → Good t
 is-good t formed shape = record {
   count = shape .count;
@@ -72,11 +79,15 @@ is-good t formed shape = record {
     nodes = formed .nodes;
     roots = λ p number. record { size = formed .roots p number; fits = shape .roots p number };
   };
-  cells = record { size = formed .cells; cell = λ o number. record { size = formed .entries o number; fits = λ p node. shape .entries p o node number } };
+  cells = record {
+    size = formed .cells;
+    cell = λ o number. record { size = formed .entries o number; fits = λ p node. shape .entries p o node number };
+  };
   air = record { size = formed .places; fits = shape .messages };
 }
 
 module _ {t : Table} (g : Good t) where
+  -- every array has its length
   pub good-formed : Formed t
   good-formed = record {
     objects = g .heap .objects;
@@ -88,6 +99,7 @@ module _ {t : Table} (g : Good t) where
     places = g .air .size;
   }
 
+  -- and every number is in its range
   pub good-shape : fitsTable t ≡ true
   good-shape = in-shape t (record {
     count = g .count;
@@ -103,7 +115,8 @@ module _ {t : Table} (g : Good t) where
 pub object-set : {h : Heap} (o : ℕ) (x : Object) → GoodHeap h → GoodObject x → o < OBJECTS → GoodHeap (withObject h o x)
 object-set {h} o x g fits number = record {
   objects = length-set (h .objects) o x ∙ g .objects;
-  object = λ a low. set-all (λ j y. GoodObject y) (h .objects) o x (record { live = false; fields = [] }) (omega (arith, g .objects)) fits a (g .object a low);
+  object = λ a low. set-all (λ j y. GoodObject y) (h .objects) o x (record { live = false; fields = [] })
+      (omega (arith, g .objects)) fits a (g .object a low);
   nodes = g .nodes;
   roots = g .roots;
 }
@@ -151,5 +164,6 @@ cells-set {cs} o c g fits number = record {
 pub air-set : {ps : List Place} (s : ℕ) (m : Message) → GoodAir ps → s < PLACES → fitsMessage m ≡ true → GoodAir (set ps s (record { held = m }))
 air-set {ps} s m g place fits = record {
   size = length-set ps s (record { held = m }) ∙ g .size;
-  fits = λ a low. set-all (λ j y. fitsMessage (y .held) ≡ true) ps s (record { held = m }) (record { held = Empty }) (omega (arith, g .size)) fits a (g .fits a low);
+  fits = λ a low. set-all (λ j y. fitsMessage (y .held) ≡ true) ps s (record { held = m }) (record { held = Empty })
+      (omega (arith, g .size)) fits a (g .fits a low);
 }

@@ -71,12 +71,13 @@ last-words-fit p o e node object fits =
 
 -- ---- objects
 
--- an object just made, and one just reclaimed
+-- an object just made
 born-good : GoodObject born
 unfolding fitsObject everyFrom
 born-good = record { size = refl; fits = refl }
 
-idle-good : GoodObject idle
+-- and one just reclaimed
+pub idle-good : GoodObject idle
 unfolding fitsObject everyFrom
 idle-good = record { size = refl; fits = refl }
 
@@ -106,6 +107,7 @@ object-name o low = rw (lt-ltb o OBJECTS low)
 -- ---- COLLECT
 
 module _ {t : Table} (g : Good t) where
+  -- reclaimed objects are idle, the others as they were
   collected-heap : (p : ℕ) (marks : Marks) → GoodHeap (heapCollected t p marks)
   unfolding heapCollected
   collected-heap p marks = record {
@@ -123,6 +125,7 @@ module _ {t : Table} (g : Good t) where
       one false o number = g .heap .object o number
 
 module _ {t : Table} (g : Good t) {p : ℕ} (node : p < NODES) (marks : Marks) (held : List ℕ) where
+  -- an entry goes or is set unused
   collected-cell : (o : ℕ) → o < OBJECTS → GoodCell o (cellCollected t p marks held o (cellAt t o))
   unfolding cellCollected fitsEntry
   collected-cell o number = go (ownedBy p o) (isReclaimed t p marks o) (holds held o)
@@ -141,6 +144,7 @@ module _ {t : Table} (g : Good t) {p : ℕ} (node : p < NODES) (marks : Marks) (
       go false gone true = old
       go false gone false = cell-good p (setUnused (entryAt t p o)) old node (unused-fits p o (entryAt t p o) (old .fits p node))
 
+  -- so in every cell
   collected-cells : GoodCells (withCollected t p marks held .cells)
   collected-cells = record {
     size = length-list 0 OBJECTS (λ o. cellCollected t p marks held o (cellAt t o));
@@ -151,6 +155,7 @@ module _ {t : Table} (g : Good t) {p : ℕ} (node : p < NODES) (marks : Marks) (
 -- ---- every event
 
 module _ {t : Table} (g : Good t) (shape : Shaped t) (before-end : t .count < EVENTS) where
+  -- the count has room for one more
   counted : fitsCount (t .count + 1) ≡ true
   counted = le-leb (t .count + 1) EVENTS (omega arith)
 
@@ -181,6 +186,7 @@ module _ {t : Table} (g : Good t) (shape : Shaped t) (before-end : t .count < EV
       sym (ap (λ (b : Bool). fitsField b (fieldAt (t .heap) o f)) live)
       ∙ every-at FIELDS (λ k. fitsField (isLive (t .heap) o) (fieldAt (t .heap) o k)) (shape .objects o object) f field
 
+  -- by cases of what the event did
   keeps : {e : Event} {u : Table} → Did t e u → Good u
   unfolding fitsEntry fitsMessage
   keeps {e} (Did.new kind free) =
@@ -230,8 +236,10 @@ module _ (t : Table) (e : Event) (formed : Formed t) (accepted : step t e .answe
       let shape = shaped t (known .shape) in
       keeps (is-good t formed shape) shape (known .before-end) (did t e accepted)
 
+  -- every array keeps its length
   pub keeps-form : Formed (step t e .table)
   keeps-form = good-formed keeps-good
 
+  -- and every number stays in its range
   pub keeps-shape : fitsTable (step t e .table) ≡ true
   keeps-shape = good-shape keeps-good

@@ -1,5 +1,6 @@
 pub mod AirKeeps
 pub mod Alive
+pub mod Along
 pub mod Answered
 pub mod Change
 pub mod CollectKeeps
@@ -16,6 +17,7 @@ pub mod HeapKeeps
 pub mod HeldAfter
 pub mod Holding
 pub mod KeepsShape
+pub mod Kept
 pub mod LawA
 pub mod LawB
 pub mod LawC

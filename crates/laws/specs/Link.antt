@@ -70,9 +70,11 @@ found entry message a = rw (entry, message) a
 -- ---- what an event writes, as an act
 
 module _ {t u : Table} {x p s : ℕ} {f : Entry} {y : Message} (formed : Formed t) (writes : Writes t u x p s f y) where
+  -- each entry is what the cells written hold
   entry-at : (q o : ℕ) → entryAt u q o ≡ entryAt (withEntry t p x f) q o
   entry-at q o = rw (writes .cells)
 
+  -- each message is what the air written holds
   message-at : (a : ℕ) → messageAt u a ≡ messageAt (withMessage t s y) a
   message-at a = rw (writes .air)
 
@@ -84,7 +86,9 @@ module _ {t u : Table} {x p s : ℕ} {f : Entry} {y : Message} (formed : Formed 
   linked-by e own others o object = elim (ℕ-discrete o x) [
     | yes q ↦ rw q (linked x (writes .object) (λ a ne. entry-at a x ∙ entry-elsewhere t p x f formed (writes .object) a ne)
         (rw (entry-at p x ∙ entry-there t p x f formed (writes .object) (writes .node)) own))
-    | no ne ↦ linked o object (λ a _. entry-at a o ∙ entry-of-another t p x f a o ne) (rw (entry-at p o ∙ entry-of-another t p x f p o ne) (others o ne))
+    | no ne ↦
+        let stays : (a : ℕ) → entryAt u a o ≡ entryAt t a o = λ a. entry-at a o ∙ entry-of-another t p x f a o ne in
+        linked o object (λ a _. stays a) (rw (stays p) (others o ne))
   ]
     where
       here : messageAt u s ≡ y
@@ -168,6 +172,7 @@ module _ {t : Table} (formed : Formed t) (shape : Shaped t) {e : Event} where
       let apart = ne-eqb x o (λ q. ne (sym q)) in
       found refl (free .there) (aside {t = t} {ev = e} (record { unsent = rw kind; unsettled = rw (kind, there o, apart) }) apart refl))
 
+module _ {t : Table} (formed : Formed t) {e : Event} where
   -- DROP of a remote entry: its last words go into the empty place
   pub link-drop : {r : Remote} → e .kind ≡ DROP → DropFree t (e .a) (e .b) (Elsewhere r) → emptyPlace t < PLACES → (o : ℕ) → o < OBJECTS
       → Linked t e (counting t (withEntry (withMessage t (emptyPlace t) (lastWords (e .a) (e .b) r)) (e .a) (e .b) Absent)) o
@@ -183,7 +188,9 @@ module _ {t : Table} (formed : Formed t) (shape : Shaped t) {e : Event} where
       → Linked t e (counting t (withEntry t (e .a) (e .b) Absent)) o
   link-clear {d} kind free =
       let none : (o : ℕ) → Neither o t e = λ o. neither (rw kind) (rw kind) in
-      linked-by formed (writes-clear free) e (found (free .there) refl (acts (none (e .b)) (Act.clears (free .idle)) refl refl)) (λ o ne. acts (none o) Act.same refl refl)
+      linked-by formed (writes-clear free) e
+      (found (free .there) refl (acts (none (e .b)) (Act.clears (free .idle)) refl refl))
+      (λ o ne. acts (none o) Act.same refl refl)
 
 -- an event that changes roots and fields only
 pub link-heap : {t : Table} {h : Heap} {e : Event} → eqb (e .kind) SEND ≡ false → eqb (e .kind) SETTLE ≡ false → (o : ℕ)

@@ -46,6 +46,7 @@ cleared (AtOwner d) x n clear = acts n (Act.clears clear) refl refl
 cleared (Elsewhere r) x n clear = absurd (false≢true clear)
 
 module _ {t : Table} (formed : Formed t) {p : ℕ} (node : p < NODES) where
+  -- the cell of object o after COLLECT at p
   abbrev collected : ℕ → Cell → Cell
   collected o c = cellCollected t p (kept t p) (heldAt t p (kept t p)) o c
 
@@ -62,6 +63,7 @@ module _ {t : Table} (formed : Formed t) {p : ℕ} (node : p < NODES) where
     others : (q : ℕ) → q ≢ p → entryIn c q ≡ entryAt t q o
     own : (x : Message) → Acts o p (entryAt t p o) x (entryIn c p) x (isSendOf o t ev) (isSettleOf o t ev)
 
+  -- by what is kept and what is held
   swept : (o : ℕ) (ev : Event) → o < OBJECTS → Neither o t ev → Swept o ev (collected o (cellAt t o))
   unfolding cellCollected
   swept o ev object n = go (ownedBy p o) refl (isReclaimed t p (kept t p) o) refl (holds (heldAt t p (kept t p)) o)
@@ -90,6 +92,7 @@ module _ {t : Table} (formed : Formed t) {p : ℕ} (node : p < NODES) where
         own = λ x. rw (cell-set (cellAt t o) p (setUnused (entryAt t p o)) size) (acts n Act.unused refl refl);
       }
 
+  -- COLLECT on one object
   pub link-collect : (e : Event) → e .kind ≡ COLLECT → (o : ℕ) → o < OBJECTS → Linked t e after o
   link-collect e kind o object =
       let sweeping = swept o e object (neither (rw kind) (rw kind)) in
@@ -113,6 +116,7 @@ module _ {t : Table} (formed : Formed t) {p : ℕ} (node : p < NODES) where
 -- ---- every accepted event
 
 module _ {t : Table} (formed : Formed t) (shape : Shaped t) {e : Event} where
+  -- by cases of what the event did
   linked-did : {u : Table} → Did t e u → (o : ℕ) → o < OBJECTS → Linked t e u o
   linked-did (Did.new kind free) o object = link-heap (rw kind) (rw kind) o
   linked-did (Did.move kind a b c) o object = link-heap (rw kind) (rw kind) o
@@ -123,8 +127,8 @@ module _ {t : Table} (formed : Formed t) (shape : Shaped t) {e : Event} where
   linked-did (Did.receive kind free) o object = link-receive formed shape kind free o object
   linked-did (Did.settle kind free) o object = link-settle formed shape kind free o object
   linked-did (Did.collect kind free) o object = link-collect formed (free .node) e kind o object
-  linked-did (Did.drop-directory kind free) o object = link-clear formed shape kind free o object
-  linked-did (Did.drop-remote kind free room) o object = link-drop formed shape kind free room o object
+  linked-did (Did.drop-directory kind free) o object = link-clear formed kind free o object
+  linked-did (Did.drop-remote kind free room) o object = link-drop formed kind free room o object
 
 module _ (t : Table) (e : Event) (formed : Formed t) (accepted : step t e .answer ≡ ACCEPTED) where
   -- an accepted event is linked to its act on every object

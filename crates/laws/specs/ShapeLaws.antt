@@ -81,6 +81,7 @@ pub record Way (from to o : ℕ) : Type 0 where
   pub away : from ≢ to
   pub object : o < OBJECTS
 
+-- taken apart
 pub way : (from to o : ℕ) → fitsWay from to o ≡ true → Way from to o
 way from to o fits =
     let one = and-passes (ltb from NODES) _ .0 fits in
@@ -93,7 +94,7 @@ way from to o fits =
       object = ltb-true o OBJECTS (three .1);
     }
 
--- and put together
+-- put together
 pub fits-way : {from to o : ℕ} → Way from to o → fitsWay from to o ≡ true
 fits-way {from} {to} {o} w =
     rw (lt-ltb from NODES (w .sender), lt-ltb to NODES (w .receiver), ne-eqb from to (w .away), lt-ltb o OBJECTS (w .object))

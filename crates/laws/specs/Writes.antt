@@ -50,7 +50,8 @@ empty-there t room = go (messageAt t (emptyPlace t)) (lowest-passes PLACES (λ s
 module _ {t : Table} (shape : Shaped t) where
   -- SEND: the sender's entry, and the reference in the empty place
   pub writes-send : {p r q : ℕ} → SendFree t p r q
-      → let x = rootAt (t .heap) p r in Writes t (counting t (withSent t p q x)) x p (emptyPlace t) (sent p q x (entryAt t p x) .entry) (Reference p q x)
+      → let x = rootAt (t .heap) p r in
+      Writes t (counting t (withSent t p q x)) x p (emptyPlace t) (sent p q x (entryAt t p x) .entry) (Reference p q x)
   writes-send {p} {r} free = record {
     object = root-object t shape p r (free .node) (free .root) (free .named);
     node = free .node;
