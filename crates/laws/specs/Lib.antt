@@ -45,6 +45,7 @@ pub mod Reclaimed
 pub mod Sequence
 pub mod ShapeLaws
 pub mod Sound
+pub mod SoundKept
 pub mod SoundTest
 pub mod SoundTestLaws
 pub mod Spot
