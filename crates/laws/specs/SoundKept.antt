@@ -8,16 +8,21 @@ use Prim.Native.Nat.{ℕ, _<_}
 use native.Mathlib.Omega.{arith}
 use Rattle.terms.specs.Limits.{EVENTS, MOST, OBJECTS}
 use Rattle.terms.specs.Numbers.{ACCEPTED}
+use Rattle.heap.specs.Heap.{isLive}
 use Rattle.table.specs.declared.Table.{Table}
 use Rattle.table.specs.Formed.{Formed}
 use Rattle.table.specs.Shape.{fitsTable}
 use Rattle.step.specs.declared.Event.{Event}
+use Rattle.step.specs.Event.{COLLECT, NEW, event}
+use Rattle.step.specs.Outcome.{valueOf}
 use Rattle.step.specs.Step.{step}
 use Rattle.laws.specs.Alive.{law-d}
 use Rattle.laws.specs.ClearLaws.{clear-means-nobody}
+use Rattle.laws.specs.CollectSafe.{collect-safe}
 use Rattle.laws.specs.CountsKept.{Counted, counted-fresh, counted-kept, counted-lawful, counted-within}
 use Rattle.laws.specs.DidLaws.{count-after}
 use Rattle.laws.specs.FreshHeld.{fresh-held}
+use Rattle.laws.specs.FreshNumber.{Unnamed, new-unnamed}
 use Rattle.laws.specs.HeldAfter.{held-after}
 use Rattle.laws.specs.Holding.{WellHeld, sound-held}
 use Rattle.laws.specs.InRange.{receives-in-range, sends-in-range, settles-in-range}
@@ -26,7 +31,7 @@ use Rattle.laws.specs.Kept.{Keeps, always, fresh-formed, fresh-shape}
 use Rattle.laws.specs.LawA.{LawA}
 use Rattle.laws.specs.LawB.{LawB}
 use Rattle.laws.specs.LawC.{LawC}
-use Rattle.laws.specs.LawD.{LawD}
+use Rattle.laws.specs.LawD.{LawD, Used}
 use Rattle.laws.specs.Lawful.{Lawful}
 use Rattle.laws.specs.LinkCollect.{change}
 use Rattle.laws.specs.Nobody.{Bridge}
@@ -119,3 +124,21 @@ always-lawD es t accepted = let sound = always-sound es t accepted in law-d t (s
 -- no event is TORN, and none meets a broken shape
 pub always-whole : Always NeverTorn
 always-whole es t accepted = let sound = always-sound es t accepted in never-torn sound (sound-counts sound)
+
+-- ---- what the owner of the trees asks for
+
+-- an object that an accepted COLLECT reclaims was used by nobody
+abbrev pub CollectSafe : Table → Type 0
+CollectSafe t =
+    (p o : ℕ) → step t (event COLLECT p 0 0 0) .answer ≡ ACCEPTED → isLive (t .heap) o ≡ true
+    → isLive (step t (event COLLECT p 0 0 0) .table .heap) o ≡ false → Used t o → ⊥
+
+pub always-collect-safe : Always CollectSafe
+always-collect-safe es t run p o accepted = let sound = always-sound es t run in collect-safe t p accepted sound (sound-bridge sound) o
+
+-- the number that an accepted NEW hands out is named by nothing
+abbrev pub NewFresh : Table → Type 0
+NewFresh t = (p r : ℕ) → step t (event NEW p r 0 0) .answer ≡ ACCEPTED → Unnamed t (valueOf (step t (event NEW p r 0 0) .deed))
+
+pub always-new-fresh : Always NewFresh
+always-new-fresh es t run p r accepted = let sound = always-sound es t run in new-unnamed t p r accepted sound (sound-bridge sound)
