@@ -8,10 +8,8 @@ use Prim.Native.Nat.{ℕ}
 use lib.IntN.{pos, negsuc}
 use lib.ListN.{replicate, take}
 use Rattle.terms.specs.Choose.{if_then_else_}
-use Rattle.terms.specs.Limits.{EVENTS}
 use Rattle.entry.specs.declared.Entry.{Entry}
 use Rattle.entry.specs.declared.Entry.the-variants.{AtOwner, Elsewhere}
-use Rattle.entry.specs.declared.Remote.{Remote}
 use Rattle.entry.specs.Acts.{directory}
 use Rattle.entry.specs.Entry.{none, returns, weight}
 use Rattle.heap.specs.Heap.{withField, withRoot}

@@ -1,14 +1,14 @@
 -- The events that change an entry and a message keep what is held well so: SEND, RECEIVE, SETTLE and DROP (PROOF-PLAN, "The field"). Of the
 -- counting they need nothing; of the shape, that a directory stands at the owner only. Assumes nothing.
-use mathlib.Core.Path.{_≡_, refl, sym, ap, _∙_}
+use mathlib.Core.Path.{_≡_, refl, sym}
 use mathlib.Core.Bool.{Bool, true, false, false≢true}
 use mathlib.Core.Logic.{_≢_, _⊎_, inl, inr, ⊎-elim}
-use Prim.Native.Nat.{ℕ, _<_}
+use Prim.Native.Nat.{ℕ}
 use native.Mathlib.Decide.{ℕ-discrete}
 use lib.Dec.{eqb}
 use borrow.Author.Tests.{eqb-true}
 use Rattle.terms.specs.Choose.{if_then_else_}
-use Rattle.terms.specs.Limits.{NODES, OBJECTS, owner}
+use Rattle.terms.specs.Limits.{owner}
 use Rattle.entry.specs.declared.Entry.{Entry}
 use Rattle.entry.specs.declared.Entry.the-variants.{Absent, AtOwner, Elsewhere}
 use Rattle.entry.specs.declared.Remote.{Remote}
@@ -20,13 +20,12 @@ use Rattle.heap.specs.Heap.{isLive}
 use Rattle.table.specs.declared.Message.{Message}
 use Rattle.table.specs.declared.Message.the-variants.{Empty, Reference, Decrement}
 use Rattle.table.specs.declared.Table.{Table}
-use Rattle.table.specs.Formed.{Formed}
 use Rattle.table.specs.Table.{emptyPlace, entryAt, isReferenceOf, messageAt, withEntry, withMessage}
 use Rattle.step.specs.Drop.{lastWords}
 use Rattle.step.specs.Receive.{reply, withReceived}
 use Rattle.step.specs.Send.{withSent}
 use Rattle.step.specs.Settle.{withSettled}
-use Rattle.laws.specs.Growing.{Grows, Keeps, grows-held}
+use Rattle.laws.specs.Growing.{grows-held}
 use Rattle.laws.specs.Holding.{WellHeld, well-is}
 use Rattle.laws.specs.NewOrSame.{entry-either, message-either, root-either}
 use Rattle.laws.specs.Presence.{may-go-idle, received-keeps, received-present, sent-present, settled-directory, settled-present}

@@ -1,25 +1,24 @@
 -- Law D from three conditions of Sound (PROOF-PLAN, "Law D"): what roots and fields of live objects hold is held well, and references in the
 -- air are of live objects; so all that is reached from them is live, by induction on the way there. Assumes nothing.
-use mathlib.Core.Path.{_≡_, refl, sym, ap, _∙_}
-use mathlib.Core.Bool.{Bool, true, false, false≢true}
-use mathlib.Core.List.{List, [], _∷_, _++_}
+use mathlib.Core.Path.{_≡_, sym, _∙_}
+use mathlib.Core.Bool.{true, false≢true}
+use mathlib.Core.List.{[]}
 use mathlib.Core.Logic.{_↔_, _⊎_, inl, inr, ⊎-elim}
 use Prim.Native.Nat.{ℕ, _<_}
 use borrow.Author.Tests.{eq-eqb, eqb-true}
-use lib.Dec.{eqb}
 use Rattle.terms.specs.Choose.{_or_}
 use Rattle.terms.specs.Counted.{gather, holds}
 use Rattle.terms.specs.CountedLaws.{Some, or-passes, holds-append, holds-first, holds-gather}
 use Rattle.terms.specs.Limits.{NODES, OBJECTS, PLACES, FIELDS, ROOTS, owner}
 use Rattle.heap.specs.Heap.{fieldAt, isLive, rootAt, rootsOf}
 use Rattle.heap.specs.Reached.{reached-within}
-use Rattle.heap.specs.Walk.{Reached, started, through}
+use Rattle.heap.specs.Walk.{started, through}
 use Rattle.table.specs.declared.Message.{Message}
 use Rattle.table.specs.declared.Message.the-variants.{Empty, Reference, Decrement}
 use Rattle.table.specs.declared.Table.{Table}
 use Rattle.table.specs.Table.{isReferenceOf, messageAt}
-use Rattle.laws.specs.Holding.{WellHeld, Named, well-named, roots-hold}
-use Rattle.laws.specs.LawD.{LawD, Used, inUse, referenceIn}
+use Rattle.laws.specs.Holding.{well-named, roots-hold}
+use Rattle.laws.specs.LawD.{LawD, inUse, referenceIn}
 use Rattle.laws.specs.Sound.{holdsWell}
 
 -- ---- what is in use without a field

@@ -1,24 +1,23 @@
 -- COLLECT keeps what is held well so (PROOF-PLAN, "COLLECT at P keeps it"): what a root, a live object's field or a reference in the air names is
 -- not reclaimed, and a remote entry of what p still holds stays in use. Here the bridge is needed. Assumes nothing.
-use mathlib.Core.Path.{_≡_, refl, sym, ap, _∙_}
+use mathlib.Core.Path.{_≡_, refl, ap, _∙_}
 use mathlib.Core.Bool.{Bool, true, false}
-use mathlib.Core.Logic.{_≢_, _⊎_, inl, inr, ⊎-elim}
+use mathlib.Core.Logic.{_⊎_, inl, inr, ⊎-elim}
 use Prim.Native.Nat.{ℕ, _<_}
 use native.Mathlib.Decide.{ℕ-discrete}
 use borrow.Author.Tests.{eq-eqb}
 use lib.ListN.{getD}
-use Rattle.terms.specs.Choose.{_or_}
 use Rattle.terms.specs.Counted.{holds}
 use Rattle.terms.specs.CountedLaws.{or-passes, holds-append}
-use Rattle.terms.specs.Limits.{NODES, OBJECTS, PLACES, FIELDS, ROOTS, owner}
-use Rattle.entry.specs.Entry.{isDirectory, isPresent}
+use Rattle.terms.specs.Limits.{NODES, OBJECTS, FIELDS, ROOTS, owner}
+use Rattle.entry.specs.Entry.{isDirectory}
 use Rattle.heap.specs.declared.Object.{Object}
 use Rattle.heap.specs.Heap.{fieldAt, isLive, rootAt, rootsOf}
 use Rattle.heap.specs.Reached.{heldBy-is}
-use Rattle.heap.specs.Walk.{Reached, started, through, Within, ownedBy, heldBy, everywhere}
+use Rattle.heap.specs.Walk.{started, through, Within, ownedBy, heldBy}
 use Rattle.table.specs.declared.Table.{Table}
 use Rattle.table.specs.Formed.{Formed}
-use Rattle.table.specs.Table.{entryAt, isReferenceOf, messageAt}
+use Rattle.table.specs.Table.{entryAt}
 use Rattle.step.specs.Collect.{kept}
 use Rattle.laws.specs.Alive.{inUse-is}
 use Rattle.laws.specs.Collected.{collected, collected-directory, collected-elsewhere, collected-kept, isGone, isHeldAt, live-after, object-stays, root-stays}

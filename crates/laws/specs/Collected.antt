@@ -1,25 +1,24 @@
 -- What stands where after COLLECT at p (document 01, COLLECT): each object, and each entry, by whether the object is reclaimed, p's own, or held
 -- at p. For tables as their type makes them. Assumes nothing.
 use mathlib.Core.Path.{_≡_, refl, sym, ap, _∙_}
-use mathlib.Core.Logic.{_≢_, _⊎_, inl, inr, ⊎-elim}
+use mathlib.Core.Logic.{_≢_, _⊎_, ⊎-elim}
 use mathlib.Core.Bool.{Bool, true, false, false≢true}
-use mathlib.Core.List.{List}
 use Prim.Native.Nat.{ℕ, _<_}
 use native.Mathlib.Omega.{arith}
 use borrow.Author.Tests.{eqb-false}
-use lib.ListN.{length, getD}
+use lib.ListN.{length}
 use lib.Seq.{getD-set-same, getD-set-other}
 use Rattle.terms.specs.Choose.{if_then_else_}
-use Rattle.terms.specs.Counted.{holds, list}
-use Rattle.terms.specs.CountedLaws.{and-passes, getD-list, length-list}
+use Rattle.terms.specs.Counted.{holds}
+use Rattle.terms.specs.CountedLaws.{getD-list, length-list}
 use Rattle.terms.specs.Limits.{NODES, OBJECTS, owner}
 use Rattle.entry.specs.declared.Entry.{Entry}
 use Rattle.entry.specs.declared.Entry.the-variants.{Absent, AtOwner, Elsewhere}
 use Rattle.entry.specs.AtNode.{setUnused}
-use Rattle.entry.specs.Entry.{isDirectory, isPresent}
+use Rattle.entry.specs.Entry.{isDirectory}
 use Rattle.heap.specs.declared.Object.{Object}
 use Rattle.heap.specs.Heap.{idle, isLive, objectAt, rootAt}
-use Rattle.heap.specs.Walk.{Marks, ownedBy}
+use Rattle.heap.specs.Walk.{ownedBy}
 use Rattle.table.specs.declared.Cell.{Cell}
 use Rattle.table.specs.declared.Slot.{Slot}
 use Rattle.table.specs.declared.Table.{Table}

@@ -1,11 +1,10 @@
 -- In the fresh table all is held well: nothing is named and nothing is live. Assumes nothing.
-use mathlib.Core.Path.{_≡_, refl, sym, ap, _∙_}
-use mathlib.Core.Bool.{true, false, false≢true}
+use mathlib.Core.Path.{_≡_, sym, ap, _∙_}
+use mathlib.Core.Bool.{false, false≢true}
 use Prim.Native.Nat.{ℕ, _<_}
 use lib.ListN.{getD, getD-replicate}
 use Rattle.terms.specs.Limits.{NODES, OBJECTS, PLACES, ROOTS, NONE}
 use Rattle.entry.specs.declared.Entry.the-variants.{Absent}
-use Rattle.entry.specs.Entry.{isDirectory}
 use Rattle.heap.specs.declared.Object.{Object}
 use Rattle.heap.specs.declared.Roots.{Roots}
 use Rattle.heap.specs.Heap.{freshHeap, idle, isLive, rootAt}
@@ -13,8 +12,8 @@ use Rattle.table.specs.declared.Cell.{Cell}
 use Rattle.table.specs.declared.Message.the-variants.{Empty}
 use Rattle.table.specs.declared.Place.{Place}
 use Rattle.table.specs.declared.Slot.{Slot}
-use Rattle.table.specs.Table.{entryAt, entryIn, freshTable, isReferenceOf, messageAt}
-use Rattle.laws.specs.Holding.{WellHeld, well-is}
+use Rattle.table.specs.Table.{entryAt, entryIn, freshTable, messageAt}
+use Rattle.laws.specs.Holding.{WellHeld}
 
 -- every root is empty
 fresh-root : (p r : ℕ) → p < NODES → r < ROOTS → rootAt freshHeap p r ≡ NONE

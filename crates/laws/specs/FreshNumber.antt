@@ -2,10 +2,9 @@
 -- isn't live no root, no field of a live object, no entry and no message is left, on any node. Assumes nothing.
 use mathlib.Core.Path.{_≡_, refl, sym, ap, _∙_}
 use mathlib.Core.Logic.{_≢_}
-use mathlib.Core.Bool.{Bool, true, false, not, true≢false, false≢true}
+use mathlib.Core.Bool.{true, false, not, true≢false}
 use Prim.Native.Nat.{ℕ, _+_, _*_, _<_}
 use native.Mathlib.Decide.{ℕ-discrete}
-use native.Mathlib.Omega.{arith}
 use lib.Dec.{eqb, ltb}
 use borrow.Author.Tests.{eq-eqb, ltb-true, not-false, not-true}
 use Rattle.terms.specs.Choose.{_and_}
@@ -14,7 +13,7 @@ use Rattle.terms.specs.Limits.{NODES, OBJECTS, OWNED, PLACES, FIELDS, ROOTS, ow
 use Rattle.terms.specs.Numbers.{ACCEPTED}
 use Rattle.entry.specs.declared.Entry.{Entry}
 use Rattle.entry.specs.declared.Entry.the-variants.{Absent, AtOwner, Elsewhere}
-use Rattle.entry.specs.Entry.{isAbsent, isClear, isDirectory}
+use Rattle.entry.specs.Entry.{isClear, isDirectory}
 use Rattle.entry.specs.Fits.{fitsEntry, fitsRemote}
 use Rattle.heap.specs.Heap.{fieldAt, freeOwn, isLive, rootAt}
 use Rattle.table.specs.declared.Table.{Table}
@@ -27,7 +26,7 @@ use Rattle.step.specs.Step.{common, oneMore, ruleFor, step}
 use Rattle.laws.specs.Answered.{NoneApplies, done, met, none-applies}
 use Rattle.laws.specs.Change.{isOf}
 use Rattle.laws.specs.DidLaws.{absent-is}
-use Rattle.laws.specs.HeapKeeps.{chosen-number, chosen-own}
+use Rattle.laws.specs.HeapKeeps.{chosen-number}
 use Rattle.laws.specs.Holding.{WellHeld, sound-held, well-named}
 use Rattle.laws.specs.Nobody.{Bridge, Nobody}
 use Rattle.laws.specs.ShapeLaws.{Shaped, shaped}

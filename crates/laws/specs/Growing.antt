@@ -4,7 +4,7 @@ use mathlib.Core.Path.{_≡_}
 use mathlib.Core.Bool.{true}
 use mathlib.Core.Logic.{_⊎_, inl, inr, ⊎-elim}
 use Prim.Native.Nat.{ℕ, _<_}
-use Rattle.terms.specs.Limits.{NODES, OBJECTS, PLACES, FIELDS, ROOTS, owner}
+use Rattle.terms.specs.Limits.{FIELDS, owner}
 use Rattle.entry.specs.Entry.{isDirectory, isPresent}
 use Rattle.heap.specs.Heap.{fieldAt, isLive, rootAt}
 use Rattle.table.specs.declared.Table.{Table}

@@ -1,19 +1,19 @@
 -- The events that move names about on one node keep what is held well so: NEW, MOVE, CLEAR, LOAD and STORE (PROOF-PLAN, "The field"). None of
 -- them needs the counting. Assumes nothing.
 use mathlib.Core.Path.{_≡_, refl, sym, ap, _∙_}
-use mathlib.Core.Bool.{Bool, true, false}
+use mathlib.Core.Bool.{true}
 use mathlib.Core.Logic.{_⊎_, inl, inr, ⊎-elim}
-use Prim.Native.Nat.{ℕ, _+_, _*_, _<_}
+use Prim.Native.Nat.{ℕ, _<_}
 use native.Mathlib.Omega.{arith}
 use lib.ListN.{getD, getD-replicate, length, set}
 use lib.Seq.{getD-set-same}
-use Rattle.terms.specs.Limits.{NODES, OBJECTS, OWNED, FIELDS, ROOTS, NONE, owner}
+use Rattle.terms.specs.Limits.{NODES, OBJECTS, OWNED, FIELDS, NONE, owner}
 use Rattle.heap.specs.declared.Object.{Object}
-use Rattle.heap.specs.Heap.{born, fieldAt, freeOwn, isLive, objectAt, rootAt, withField, withObject, withRoot}
+use Rattle.heap.specs.Heap.{born, fieldAt, freeOwn, isLive, objectAt, withField, withObject, withRoot}
 use Rattle.table.specs.declared.Table.{Table}
 use Rattle.table.specs.Table.{withCount, withHeap}
 use Rattle.step.specs.New.{chosen, withNew}
-use Rattle.laws.specs.Growing.{Grows, Keeps, grows-held, keeps-well}
+use Rattle.laws.specs.Growing.{Keeps, grows-held, keeps-well}
 use Rattle.laws.specs.Holding.{WellHeld, well-is}
 use Rattle.laws.specs.NewOrSame.{object-either, root-either, set-either}
 use Rattle.laws.specs.Sound.{holdsWell}

@@ -1,8 +1,8 @@
 -- Every accepted event keeps the four conditions of Sound that speak of the heap, given that a clear directory means nobody (PROOF-PLAN, "The
 -- field", 2 and 3). The bridge is used for COLLECT alone. Assumes nothing.
-use mathlib.Core.Path.{_≡_, refl, sym, ap, _∙_}
-use mathlib.Core.Logic.{_≢_, _⊎_, inl, inr, ⊎-elim}
-use mathlib.Core.Bool.{Bool, true, false, not, true≢false}
+use mathlib.Core.Path.{_≡_, refl, sym}
+use mathlib.Core.Logic.{_≢_}
+use mathlib.Core.Bool.{Bool, true, false, true≢false}
 use Prim.Native.Nat.{ℕ, _<_}
 use native.Mathlib.Omega.{arith}
 use lib.Dec.{eqb}
@@ -13,14 +13,13 @@ use Rattle.terms.specs.Numbers.{ACCEPTED}
 use Rattle.entry.specs.declared.Entry.{Entry}
 use Rattle.entry.specs.declared.Entry.the-variants.{Absent, AtOwner, Elsewhere}
 use Rattle.entry.specs.Entry.{isDirectory}
-use Rattle.entry.specs.AtNode.{mayGo, received}
+use Rattle.entry.specs.AtNode.{received}
 use Rattle.entry.specs.Fits.{fitsEntry, fitsDirectory}
 use Rattle.heap.specs.Heap.{fieldAt, isLive, isNone, rootAt}
-use Rattle.table.specs.declared.Message.{Message}
 use Rattle.table.specs.declared.Message.the-variants.{Reference}
 use Rattle.table.specs.declared.Table.{Table}
 use Rattle.table.specs.Formed.{Formed}
-use Rattle.table.specs.Table.{entryAt, isReferenceOf, messageAt}
+use Rattle.table.specs.Table.{entryAt, messageAt}
 use Rattle.step.specs.declared.Event.{Event}
 use Rattle.step.specs.New.{chosen}
 use Rattle.step.specs.Step.{step}
@@ -30,10 +29,10 @@ use Rattle.laws.specs.CollectKeeps.{collect-held}
 use Rattle.laws.specs.Did.{Did, new, move, clear, load, store, send, receive, settle, collect, drop-directory, drop-remote}
 use Rattle.laws.specs.DidLaws.{did}
 use Rattle.laws.specs.HeapKeeps.{chosen-number, chosen-own, count-held, field-held, new-held, root-held}
-use Rattle.laws.specs.Holding.{WellHeld, live-number, sound-held, well-is, well-named}
+use Rattle.laws.specs.Holding.{WellHeld, live-number, sound-held, well-named}
 use Rattle.laws.specs.Nobody.{Bridge}
 use Rattle.laws.specs.ShapeLaws.{Shaped, reference-way, root-object, shaped}
-use Rattle.laws.specs.Sound.{Sound, holdsWell}
+use Rattle.laws.specs.Sound.{Sound}
 use Rattle.laws.specs.TableLaws.{entry-there}
 
 -- in shape, a directory stands at the owner only

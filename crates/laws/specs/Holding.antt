@@ -1,7 +1,7 @@
 -- What it means that a node holds well what it holds (document 01, TORN of COLLECT; `holdsWell` of specs/Sound.antt), said in propositions,
 -- and the four conditions of Sound that speak of the heap, by themselves. Assumes nothing.
-use mathlib.Core.Path.{_≡_, refl, sym, ap, _∙_}
-use mathlib.Core.Bool.{Bool, true, false, false≢true}
+use mathlib.Core.Path.{_≡_, sym, _∙_}
+use mathlib.Core.Bool.{true, false≢true}
 use mathlib.Core.Logic.{_↔_, _⊎_, inl, inr, ⊎-elim}
 use Prim.Native.Nat.{ℕ, _<_}
 use native.Mathlib.Decide.{decLt}

@@ -1,13 +1,13 @@
 -- No event is TORN, and none meets a broken shape (`NeverTorn` of specs/Sound.antt), where all is held well and the counts do their part: of SEND,
 -- RECEIVE and SETTLE that the act on the entry is not refused (`CountsWhole`, which the laws on counts give). Assumes nothing.
 use mathlib.Core.Path.{_≡_, refl, sym, ap, _∙_}
-use mathlib.Core.Bool.{Bool, true, false, not, true≢false, false≢true}
+use mathlib.Core.Bool.{Bool, true, false, not, false≢true}
 use mathlib.Core.List.{List, [], _∷_}
-use mathlib.Core.Logic.{_≢_, _⊎_, inl, inr, ⊎-elim}
-use Prim.Native.Nat.{ℕ, _+_, _<_}
+use mathlib.Core.Logic.{_≢_, _⊎_, inl, inr}
+use Prim.Native.Nat.{ℕ, _<_}
 use native.Mathlib.Omega.{arith}
 use lib.Dec.{eqb, ltb}
-use borrow.Author.Tests.{eq-eqb, eqb-false, eqb-true, ltb-true, not-false, not-true}
+use borrow.Author.Tests.{eqb-false, eqb-true, ltb-true, not-false}
 use Rattle.terms.specs.Choose.{Refusal, if_then_else_, _and_, _or_, answered}
 use Rattle.terms.specs.Limits.{EVENTS, NODES, OBJECTS, OWNED, PLACES, ROOTS, owner}
 use Rattle.terms.specs.Numbers.{ACCEPTED, SHAPE, EVENT, ENDED, NOMSG, SELF, EMPTY, AWAY, ROOT, NOROOM, NOENTRY, BUSY, TORN, FULL}
@@ -16,8 +16,8 @@ use Rattle.entry.specs.declared.Entry.the-variants.{Absent, AtOwner, Elsewhere}
 use Rattle.entry.specs.declared.ReturnCount.{ReturnCount}
 use Rattle.entry.specs.declared.Weight.{Weight}
 use Rattle.entry.specs.AtNode.{received, refuses, sent, settled}
-use Rattle.entry.specs.Entry.{isAbsent, isPresent}
-use Rattle.heap.specs.Heap.{freeOwn, isLive, isNone, rootAt}
+use Rattle.entry.specs.Entry.{isPresent}
+use Rattle.heap.specs.Heap.{freeOwn, isNone, rootAt}
 use Rattle.heap.specs.Walk.{ownedBy}
 use Rattle.table.specs.declared.Message.{Message}
 use Rattle.table.specs.declared.Message.the-variants.{Empty, Reference, Decrement}
@@ -29,12 +29,12 @@ use Rattle.step.specs.declared.Kind.{Kind}
 use Rattle.step.specs.declared.Kind.the-variants.{New, Move, Clear, Load, Store, Send, Receive, Settle, Collect, Drop, Unknown}
 use Rattle.step.specs.declared.Outcome.{Outcome}
 use Rattle.step.specs.Clear.{clear}
-use Rattle.step.specs.Collect.{collectHolding, collectKeeping, collectTorn, heldAt, kept}
+use Rattle.step.specs.Collect.{collectHolding, collectKeeping, heldAt, kept}
 use Rattle.step.specs.Drop.{dropOf}
 use Rattle.step.specs.Event.{fitsEvent, kindOf, rangesOf}
 use Rattle.step.specs.Load.{load, outOfReach}
 use Rattle.step.specs.Move.{move}
-use Rattle.step.specs.New.{chosen, new}
+use Rattle.step.specs.New.{new}
 use Rattle.step.specs.Outcome.{by, refused}
 use Rattle.step.specs.Receive.{receiveOf}
 use Rattle.step.specs.Send.{isDeadOwn, send}

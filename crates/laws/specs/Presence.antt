@@ -1,15 +1,14 @@
 -- What the acts on an entry do to its Presence (document 01, SEND, RECEIVE, SETTLE): none of them takes it away, a receipt elsewhere than at the
 -- owner gives it, and no act but the owner's first SEND makes a directory. Assumes nothing.
-use mathlib.Core.Path.{_≡_, refl, sym, _∙_}
+use mathlib.Core.Path.{_≡_, refl, _∙_}
 use mathlib.Core.Logic.{_≢_}
 use mathlib.Core.Bool.{Bool, true, false, not, false≢true, true≢false}
-use Prim.Native.Nat.{ℕ, _+_, _-_}
+use Prim.Native.Nat.{ℕ}
 use lib.Dec.{leb, ltb, eqb}
 use borrow.Author.Tests.{ne-eqb}
 use Rattle.terms.specs.Choose.{if_then_else_, _and_}
 use Rattle.terms.specs.Limits.{MOST, owner}
 use Rattle.terms.specs.Numbers.{ACCEPTED}
-use Rattle.entry.specs.declared.Directory.{Directory}
 use Rattle.entry.specs.declared.Entry.{Entry}
 use Rattle.entry.specs.declared.Entry.the-variants.{Absent, AtOwner, Elsewhere}
 use Rattle.entry.specs.declared.Remote.{Remote}
@@ -20,9 +19,6 @@ use Rattle.entry.specs.Acts.{remoteReceivedAgain, remoteSent, remoteSentHome, r
 use Rattle.entry.specs.AtNode.{holderSent, mayGo, received, refuses, sent, settled, ofRemote, torn}
 use Rattle.entry.specs.Entry.{both, isDirectory, isPresent, more}
 use Rattle.entry.specs.Fits.{fitsReturns}
-use Rattle.table.specs.declared.Message.{Message}
-use Rattle.table.specs.Table.{isReferenceOf}
-use Rattle.step.specs.Receive.{reply}
 
 -- whichever of two acts a test picks, it leaves Presence as both do
 either-presence : (b : Bool) (x y : RemoteAct) (v : Bool) → x .entry .presence ≡ v → y .entry .presence ≡ v → (if b then x else y) .entry .presence ≡ v

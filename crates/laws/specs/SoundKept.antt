@@ -1,18 +1,15 @@
 -- Every accepted event keeps Sound, so Sound always holds, from the fresh table on; and with it laws A to D, and that no event is TORN
 -- (document 01, "Laws over all accepted sequences", and "from the fresh state it never occurs"). Assumes nothing.
-use mathlib.Core.Path.{_≡_, refl, sym, ap, _∙_}
-use mathlib.Core.Logic.{_⊎_, inl, inr, ⊎-elim}
+use mathlib.Core.Path.{_≡_, sym}
+use mathlib.Core.Logic.{inl, inr, ⊎-elim}
 use mathlib.Core.Bool.{true, false}
-use mathlib.Core.List.{List}
 use Prim.Native.Nat.{ℕ, _<_}
-use native.Mathlib.Omega.{arith}
-use Rattle.terms.specs.Limits.{EVENTS, MOST, OBJECTS}
+use Rattle.terms.specs.Limits.{OBJECTS}
 use Rattle.terms.specs.Numbers.{ACCEPTED}
 use Rattle.heap.specs.Heap.{isLive}
 use Rattle.table.specs.declared.Table.{Table}
 use Rattle.table.specs.Formed.{Formed}
 use Rattle.table.specs.Shape.{fitsTable}
-use Rattle.step.specs.declared.Event.{Event}
 use Rattle.step.specs.Event.{COLLECT, NEW, event}
 use Rattle.step.specs.Outcome.{valueOf}
 use Rattle.step.specs.Step.{step}
@@ -36,7 +33,7 @@ use Rattle.laws.specs.Lawful.{Lawful}
 use Rattle.laws.specs.LinkCollect.{change}
 use Rattle.laws.specs.Nobody.{Bridge}
 use Rattle.laws.specs.NotTorn.{CountsWhole, never-torn}
-use Rattle.laws.specs.Sequence.{Accepted, Always}
+use Rattle.laws.specs.Sequence.{Always}
 use Rattle.laws.specs.ShapeLaws.{reference-way, decrement-way, shaped}
 use Rattle.laws.specs.Sound.{NeverTorn, Sound}
 use Rattle.laws.specs.Within.{Within}

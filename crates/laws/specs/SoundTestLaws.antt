@@ -1,13 +1,13 @@
 -- The test of Sound is true exactly where the table is Sound: `sound-is`. Each condition of the test says what the one of Sound says, for tables
 -- as their type makes them. Assumes nothing.
-use mathlib.Core.Path.{_≡_, refl, sym, ap, _∙_}
+use mathlib.Core.Path.{_≡_, refl, sym, ap}
 use mathlib.Core.Bool.{Bool, true, false, not, true≢false, false≢true}
-use mathlib.Core.Logic.{_↔_, _⊎_, inl, inr, ⊎-elim}
+use mathlib.Core.Logic.{_↔_}
 use Prim.Native.Nat.{ℕ, _≤_, _<_}
 use lib.Dec.{eqb, leb}
 use lib.IntN.{ℤ, pos, negsuc, _+ℤ_, pos-ne-negsuc}
 use borrow.Author.Tests.{eq-eqb, eqb-true, le-leb, leb-true, lt-ltb}
-use Rattle.terms.specs.Choose.{_and_, _or_}
+use Rattle.terms.specs.Choose.{_or_}
 use Rattle.terms.specs.Counted.{every, howMany}
 use Rattle.terms.specs.CountedLaws.{and-passes, every-all, every-at}
 use Rattle.terms.specs.Limits.{NODES, OBJECTS, PLACES, FIELDS, ROOTS, STEPS, owner}

@@ -1,17 +1,17 @@
 -- Where COLLECT starts and what it reclaims (document 01, COLLECT), in propositions: the walk starts from the roots of the node and from its
 -- objects whose directory is not clear; reclaimed is what is the node's own, live and not reached. Assumes nothing.
-use mathlib.Core.Path.{_≡_, refl, sym, ap, _∙_}
+use mathlib.Core.Path.{_≡_, refl, sym, _∙_}
 use mathlib.Core.Bool.{Bool, true, false, not, true≢false, false≢true}
-use mathlib.Core.List.{List, [], _∷_, _++_}
+use mathlib.Core.List.{[], _∷_}
 use mathlib.Core.Logic.{_↔_, _⊎_, inl, inr, ⊎-elim}
 use Prim.Native.Nat.{ℕ, _+_, _*_, _%_, _<_}
 use native.Mathlib.Omega.{arith}
 use borrow.Author.Tests.{eqb-true, eq-eqb, not-true}
 use lib.ListN.{getD}
 use Rattle.terms.specs.Choose.{if_then_else_, _and_, _or_}
-use Rattle.terms.specs.Counted.{holds, list}
+use Rattle.terms.specs.Counted.{holds}
 use Rattle.terms.specs.CountedLaws.{Some, and-passes, or-passes, getD-list, holds-append, holds-first, holds-gather}
-use Rattle.terms.specs.Limits.{OBJECTS, OWNED, ROOTS, owner}
+use Rattle.terms.specs.Limits.{OWNED, ROOTS, owner}
 use Rattle.entry.specs.Entry.{isClear}
 use Rattle.heap.specs.Heap.{isLive, rootAt, rootsOf}
 use Rattle.heap.specs.Reached.{reached-is}

@@ -2,17 +2,17 @@
 -- fields on any node, to an object of P comes in the end from a root of P or from an object of P whose directory is not clear; so a
 -- reclaimed object was not in use. For any table that is held well and has the bridge. Assumes nothing.
 use mathlib.Core.Path.{_≡_, sym, _∙_}
-use mathlib.Core.Bool.{Bool, true, false}
+use mathlib.Core.Bool.{true, false}
 use mathlib.Core.Logic.{_≢_, _⊎_, inl, inr, ⊎-elim}
 use Prim.Native.Nat.{ℕ, _<_}
 use native.Mathlib.Decide.{ℕ-discrete}
 use native.Mathlib.Omega.{arith}
 use borrow.Author.Tests.{eq-eqb}
-use Rattle.terms.specs.Limits.{NODES, OBJECTS, FIELDS, ROOTS, owner}
+use Rattle.terms.specs.Limits.{NODES, OBJECTS, ROOTS, owner}
 use Rattle.entry.specs.Entry.{isClear, isPresent}
-use Rattle.heap.specs.Heap.{fieldAt, isLive, rootAt}
+use Rattle.heap.specs.Heap.{isLive, rootAt}
 use Rattle.heap.specs.Reached.{reached-within}
-use Rattle.heap.specs.Walk.{Reached, started, through, Within, ownedBy}
+use Rattle.heap.specs.Walk.{started, through, Within, ownedBy}
 use Rattle.table.specs.declared.Table.{Table}
 use Rattle.table.specs.Table.{entryAt}
 use Rattle.laws.specs.Alive.{InRoot, InAir, inUse-is, law-d}

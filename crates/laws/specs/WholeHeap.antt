@@ -2,22 +2,22 @@
 -- of TORN that speaks of live objects and of Presence fails once the lower refusals have failed. The bridge is not needed. Assumes nothing.
 use mathlib.Core.Path.{_≡_, refl, sym, ap, _∙_}
 use mathlib.Core.Bool.{Bool, true, false, not, true≢false, false≢true}
-use mathlib.Core.List.{List, [], _∷_, _++_}
+use mathlib.Core.List.{List, [], _∷_}
 use mathlib.Core.Logic.{_⊎_, inl, inr, ⊎-elim}
 use Prim.Native.Nat.{ℕ, _<_}
 use lib.Dec.{eqb}
-use borrow.Author.Tests.{eq-eqb, eqb-false, eqb-true, not-true}
-use Rattle.terms.specs.Choose.{if_then_else_, _and_, _or_}
-use Rattle.terms.specs.Counted.{all, every, holds}
+use borrow.Author.Tests.{eqb-false, eqb-true, not-true}
+use Rattle.terms.specs.Choose.{_and_, _or_}
+use Rattle.terms.specs.Counted.{all, holds}
 use Rattle.terms.specs.CountedLaws.{Some, and-passes, every-all, holds-append, holds-first, or-passes}
-use Rattle.terms.specs.Limits.{NODES, OBJECTS, OWNED, PLACES, FIELDS, ROOTS, owner}
+use Rattle.terms.specs.Limits.{NODES, OBJECTS, OWNED, PLACES, ROOTS, owner}
 use Rattle.entry.specs.declared.Entry.{Entry}
 use Rattle.entry.specs.declared.Entry.the-variants.{Absent, AtOwner, Elsewhere}
 use Rattle.entry.specs.Entry.{isAbsent, isClear, isDirectory, isPresent}
 use Rattle.entry.specs.Fits.{fitsEntry, fitsRemote}
-use Rattle.heap.specs.Heap.{fieldAt, freeOwn, isLive, isNone, rootAt, rootsOf}
-use Rattle.heap.specs.Reached.{Held, heldBy-is, reached-within}
-use Rattle.heap.specs.Walk.{Reached, started, through, heldBy, isMarked, ownedBy}
+use Rattle.heap.specs.Heap.{freeOwn, isLive, isNone, rootAt, rootsOf}
+use Rattle.heap.specs.Reached.{heldBy-is, reached-within}
+use Rattle.heap.specs.Walk.{started, through, heldBy, isMarked, ownedBy}
 use Rattle.table.specs.declared.Message.the-variants.{Reference}
 use Rattle.table.specs.declared.Table.{Table}
 use Rattle.table.specs.Table.{entryAt, messageAt}
@@ -27,7 +27,7 @@ use Rattle.step.specs.Send.{isDeadOwn}
 use Rattle.laws.specs.FreshNumber.{chosen-dead, dead-unlisted}
 use Rattle.laws.specs.HeapKeeps.{chosen-number, chosen-own}
 use Rattle.laws.specs.HeldAfter.{reference-live, root-live}
-use Rattle.laws.specs.Holding.{WellHeld, roots-hold, well-is, well-named}
+use Rattle.laws.specs.Holding.{WellHeld, roots-hold, well-named}
 use Rattle.laws.specs.ShapeLaws.{Shaped, root-object}
 use Rattle.laws.specs.Sound.{holdsWell}
 use Rattle.laws.specs.Starts.{Counted, Kept, kept-is, starts-is}
