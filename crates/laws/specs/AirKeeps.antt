@@ -94,7 +94,8 @@ module _ {t : Table} (held : WellHeld t) where
   module _ (p o : ℕ) (goes : mayGo (entryAt t p o) ≡ true) where
     pub drop-held : (s : ℕ) (e : Remote) → WellHeld (withEntry (withMessage t s (lastWords p o e)) p o Absent)
     drop-held s e =
-        written-held p o Absent s (lastWords p o e) (λ h. absurd (may-go-idle (entryAt t p o) goes h)) (λ d. absurd (false≢true d)) (λ x h. absurd (false≢true h))
+        written-held p o Absent s (lastWords p o e)
+        (λ h. absurd (may-go-idle (entryAt t p o) goes h)) (λ d. absurd (false≢true d)) (λ x h. absurd (false≢true h))
 
     pub clear-held : WellHeld (withEntry t p o Absent)
     clear-held = grows-held held (record {
@@ -113,7 +114,8 @@ module _ {t : Table} (held : WellHeld t) where
     abbrev after : Entry
     after = received from to o found .entry
 
-    pub receive-held : refuses (received from to o found) ≡ false → entryAt (withEntry t to o after) to o ≡ after → WellHeld (withReceived t s r from to o)
+    pub receive-held : refuses (received from to o found) ≡ false → entryAt (withEntry t to o after) to o ≡ after
+        → WellHeld (withReceived t s r from to o)
     receive-held takes there = grows-held held (record {
       keeps = record { live = λ x l. l; present = present-by t to o after (received-keeps from to o found) };
       roots = λ a k. ⊎-elim (λ new. inr (rw (new .1, new .0) named)) inl (root-either (t .heap) to r o a k);

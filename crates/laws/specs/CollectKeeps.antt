@@ -48,7 +48,8 @@ module _ (t : Table) (p x : ℕ) where
 
   field-holds : (o f : ℕ) → o < OBJECTS → f < FIELDS → Kept t p o → fieldAt (t .heap) o f ≡ x → isHeldAt t p x ≡ true
   field-holds o f number lt way e =
-      either-holds (inr (heldBy-is (t .heap) (kept t p) x .1 (record { object = o; number = number; marked = kept-is t p o .1 way; holder = (f, lt, e) })))
+      let marked = kept-is t p o .1 way in
+      either-holds (inr (heldBy-is (t .heap) (kept t p) x .1 (record { object = o; number = number; marked = marked; holder = (f, lt, e) })))
 
 module _ {t : Table} (held : WellHeld t) (bridge : Bridge t) (formed : Formed t) (p : ℕ) where
   -- a live object that is not reclaimed stays live
@@ -81,7 +82,9 @@ module _ {t : Table} (held : WellHeld t) (bridge : Bridge t) (formed : Formed t)
       → fieldAt (t .heap) o f < OBJECTS → Named t (owner o) (fieldAt (t .heap) o f) → isGone t p (fieldAt (t .heap) o f) ≡ false
   field-stays o f number lt live stays small named = not-gone t p x λ gone. gone .unreached (elim (ℕ-discrete (owner o) p) [
     | yes own ↦ through (stays-kept t p o own live stays) f lt refl (within gone)
-    | no other ↦ started (within gone) (starts-is t p x .1 (inr (held-counted held bridge p (owner o) x (owner-number number) small (gone .own) other named)))
+    | no other ↦
+        let counted = held-counted held bridge p (owner o) x (owner-number number) small (gone .own) other named in
+        started (within gone) (starts-is t p x .1 (inr counted))
   ])
     where
       x : ℕ
@@ -96,7 +99,8 @@ module _ {t : Table} (held : WellHeld t) (bridge : Bridge t) (formed : Formed t)
     roots = λ q r lq lr.
         let x = rootAt (t .heap) q r in
         let used : x < OBJECTS → Used t x = λ lt. started (record { number = lt; inside = refl }) (inUse-is t x .1 (inl (q, lq, (r, lr, refl)))) in
-        rw (root-stays t p q r) (still-well q x (held .roots q r lq lr) (λ lt n. used-stays x (used lt)) (λ here. root-holds t p x r lr (rw (← here))));
+        rw (root-stays t p q r)
+        (still-well q x (held .roots q r lq lr) (λ lt n. used-stays x (used lt)) (λ here. root-holds t p x r lr (rw (← here))));
     fields = λ o f lo lf live.
         let (stays, was) = live-after t p o live in
         let x = fieldAt (t .heap) o f in
@@ -114,6 +118,6 @@ module _ {t : Table} (held : WellHeld t) (bridge : Bridge t) (formed : Formed t)
     ];
     references = λ s o ls h.
         let live = held .references s o ls h in
-        let used : Used t o = started (record { number = live-number (t .heap) o (formed .objects) live; inside = refl }) (inUse-is t o .1 (inr (s, ls, h))) in
-        still-live o live (used-stays o used);
+        let lt = live-number (t .heap) o (formed .objects) live in
+        still-live o live (used-stays o (started (record { number = lt; inside = refl }) (inUse-is t o .1 (inr (s, ls, h)))));
   }

@@ -3,16 +3,12 @@ use mathlib.Core.Path.{_≡_, sym, ap, _∙_}
 use mathlib.Core.Bool.{false, false≢true}
 use Prim.Native.Nat.{ℕ, _<_}
 use lib.ListN.{getD, getD-replicate}
-use Rattle.terms.specs.Limits.{NODES, OBJECTS, PLACES, ROOTS, NONE}
-use Rattle.entry.specs.declared.Entry.the-variants.{Absent}
+use Rattle.terms.specs.Limits.{NODES, OBJECTS, ROOTS, NONE}
 use Rattle.heap.specs.declared.Object.{Object}
 use Rattle.heap.specs.declared.Roots.{Roots}
 use Rattle.heap.specs.Heap.{freshHeap, idle, isLive, rootAt}
-use Rattle.table.specs.declared.Cell.{Cell}
-use Rattle.table.specs.declared.Message.the-variants.{Empty}
-use Rattle.table.specs.declared.Place.{Place}
-use Rattle.table.specs.declared.Slot.{Slot}
-use Rattle.table.specs.Table.{entryAt, entryIn, freshTable, messageAt}
+use Rattle.table.specs.Table.{freshTable}
+use Rattle.laws.specs.Kept.{fresh-entry, fresh-message}
 use Rattle.laws.specs.Holding.{WellHeld}
 
 -- every root is empty
@@ -23,18 +19,11 @@ fresh-root p r node root = ap (λ (x : Roots). getD (x .at) r 0) (getD-replicate
 fresh-dead : (o : ℕ) → o < OBJECTS → isLive freshHeap o ≡ false
 fresh-dead o lt = ap (λ (x : Object). x .live) (getD-replicate OBJECTS o idle _ lt)
 
--- no entry stands
-fresh-absent : (p o : ℕ) → p < NODES → o < OBJECTS → entryAt freshTable p o ≡ Absent
-fresh-absent p o node lt = ap (λ (c : Cell). entryIn c p) (getD-replicate OBJECTS o _ _ lt) ∙ ap (λ (x : Slot). x .held) (getD-replicate NODES p _ _ node)
-
--- no message is in the air
-fresh-quiet : (s : ℕ) → s < PLACES → messageAt freshTable s ≡ Empty
-fresh-quiet s place = ap (λ (x : Place). x .held) (getD-replicate PLACES s _ _ place)
-
+-- so all is held well
 pub fresh-held : WellHeld freshTable
 fresh-held = record {
   roots = λ p r node root. rw (fresh-root p r node root);
   fields = λ o f lt small live. absurd (false≢true (sym (fresh-dead o lt) ∙ live));
-  directories = λ p o node lt d. absurd (false≢true (rw (fresh-absent p o node lt) at d));
-  references = λ s o place h. absurd (false≢true (rw (fresh-quiet s place) at h));
+  directories = λ p o node lt d. absurd (false≢true (rw (fresh-entry p o node lt) at d));
+  references = λ s o place h. absurd (false≢true (rw (fresh-message s place) at h));
 }

@@ -60,7 +60,10 @@ module _ {t : Table} (shape : Shaped t) (held : WellHeld t) (o : ℕ) (lt : o < 
   dead-unnamed bridge = record {
     roots = λ p r node root e. true≢false (sym (well-named t p o lt (rw e at (held .roots p r node root)) .live) ∙ dead);
     fields = λ x f number small live e. true≢false (sym (well-named t (owner x) o lt (rw e at (held .fields x f number small live)) .live) ∙ dead);
-    entries = λ p node. elim (ℕ-discrete p (owner o)) [ yes own ↦ rw own dead-unlisted | no other ↦ absent-is (entryAt t p o) (nobody .entries p node other) ];
+    entries = λ p node. elim (ℕ-discrete p (owner o)) [
+      | yes own ↦ rw own dead-unlisted
+      | no other ↦ absent-is (entryAt t p o) (nobody .entries p node other)
+    ];
     messages = nobody .messages;
   }
     where
@@ -91,9 +94,12 @@ module _ (t : Table) (p r : ℕ) (accepted : step t (event NEW p r 0 0) .answer 
   -- the value of an accepted NEW is the object that it took
   pub new-value : valueOf (step t (event NEW p r 0 0) .deed) ≡ chosen t p
   unfolding step kindOf ruleFor new
-  new-value = ap (λ (x : Outcome). valueOf (x .deed)) (none-applies t (common t (event NEW p r 0 0)) (oneMore (t .count) (by t (new t p r))) refl accepted .1) ∙ rw (free .0, free .1 .0, free .1 .1 .0)
+  new-value =
+      let past = none-applies t (common t (event NEW p r 0 0)) (oneMore (t .count) (by t (new t p r))) refl accepted in
+      ap (λ (x : Outcome). valueOf (x .deed)) (past .1) ∙ rw (free .0, free .1 .0, free .1 .1 .0)
 
   -- the number that NEW hands out is named by nothing
   pub new-unnamed : Sound t → Bridge t → Unnamed t (valueOf (step t (event NEW p r 0 0) .deed))
   new-unnamed sound bridge =
-      rw new-value (dead-unnamed (shaped t (sound .shape)) (sound-held sound) (chosen t p) (chosen-number t p room node) (chosen-dead t p room) bridge)
+      let number = chosen-number t p room node in
+      rw new-value (dead-unnamed (shaped t (sound .shape)) (sound-held sound) (chosen t p) number (chosen-dead t p room) bridge)

@@ -9,7 +9,7 @@ use Rattle.entry.specs.Entry.{isDirectory, isPresent}
 use Rattle.heap.specs.Heap.{fieldAt, isLive, rootAt}
 use Rattle.table.specs.declared.Table.{Table}
 use Rattle.table.specs.Table.{entryAt, isReferenceOf, messageAt}
-use Rattle.laws.specs.Holding.{WellHeld, well-is}
+use Rattle.laws.specs.Holding.{Named, WellHeld, well-is}
 use Rattle.laws.specs.Sound.{holdsWell}
 
 -- nothing stops being live, and no entry stops being present
@@ -20,8 +20,9 @@ pub record Keeps (t u : Table) : Type 0 where
 -- so what is held well stays so
 pub keeps-well : {t u : Table} → Keeps t u → (p x : ℕ) → holdsWell t p x ≡ true → holdsWell u p x ≡ true
 keeps-well {t} {u} keeps p x e =
-    well-is u p x .1
-    (⊎-elim inl (λ n. inr (record { live = keeps .live x (n .live); way = ⊎-elim inl (λ y. inr (keeps .present p x y)) (n .way) })) (well-is t p x .0 e))
+    let named : Named t p x → Named u p x =
+    λ n. record { live = keeps .live x (n .live); way = ⊎-elim inl (λ y. inr (keeps .present p x y)) (n .way) } in
+    well-is u p x .1 (⊎-elim inl (λ n. inr (named n)) (well-is t p x .0 e))
 
 -- from t to u all that names an object did so before, or does so well
 pub record Grows (t u : Table) : Type 0 where

@@ -80,10 +80,13 @@ module _ {t : Table} (held : WellHeld t) where
   -- NEW: an object becomes live, its fields empty, and a root of its node names it
   pub new-held : (p r o : ℕ) → o < length (t .heap .objects) → owner o ≡ p → WellHeld (withNew t p r o)
   new-held p r o lt own = grows-held held (record {
-    keeps = record { live = λ a l. ⊎-elim (λ new. ap (λ (k : Object). k .live) (new .1)) (λ same. ap (λ (k : Object). k .live) same ∙ l) (either a); present = λ q a h. h };
+    keeps = record {
+      live = λ a l. ⊎-elim (λ new. ap (λ (k : Object). k .live) (new .1)) (λ same. ap (λ (k : Object). k .live) same ∙ l) (either a);
+      present = λ q a h. h;
+    };
     roots = λ q s. ⊎-elim (λ new. inr (rw (new .1, new .0) named)) inl (root-either (withObject (t .heap) o born) p r o q s);
     fields = λ a f small live. ⊎-elim
-        (λ new. inr (well-is u (owner a) (fieldAt (u .heap) a f) .1 (inl (ap (λ (k : Object). getD (k .fields) f 0) (new .1) ∙ getD-replicate FIELDS f NONE 0 small))))
+        (λ new. inr (well-is u (owner a) (fieldAt (u .heap) a f) .1 (inl (empty a f small (new .1)))))
         (λ same. inl (sym (ap (λ (k : Object). k .live) same) ∙ live, ap (λ (k : Object). getD (k .fields) f 0) same))
         (either a);
     directories = λ q a d. inl d;
@@ -93,7 +96,10 @@ module _ {t : Table} (held : WellHeld t) where
       u : Table
       u = withNew t p r o
 
-      either : (a : ℕ) → ((a ≡ o) × (objectAt (withObject (t .heap) o born) a ≡ born)) ⊎ (objectAt (withObject (t .heap) o born) a ≡ objectAt (t .heap) a)
+      empty : (a f : ℕ) → f < FIELDS → objectAt (u .heap) a ≡ born → fieldAt (u .heap) a f ≡ NONE
+      empty a f small e = ap (λ (k : Object). getD (k .fields) f 0) e ∙ getD-replicate FIELDS f NONE 0 small
+
+      either : (a : ℕ) → ((a ≡ o) × (objectAt (u .heap) a ≡ born)) ⊎ (objectAt (u .heap) a ≡ objectAt (t .heap) a)
       either a = object-either (t .heap) o born a
 
       named : holdsWell u p o ≡ true

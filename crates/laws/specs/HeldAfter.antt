@@ -54,7 +54,8 @@ no-directory {t} shape q o node number other = go (isDirectory (entryAt t q o)) 
     go false own = refl
 
 -- a root that isn't empty names a live object
-pub root-live : {t : Table} → WellHeld t → Shaped t → (p r : ℕ) → p < NODES → r < ROOTS → isNone (rootAt (t .heap) p r) ≡ false → isLive (t .heap) (rootAt (t .heap) p r) ≡ true
+pub root-live : {t : Table} → WellHeld t → Shaped t → (p r : ℕ) → p < NODES → r < ROOTS → isNone (rootAt (t .heap) p r) ≡ false
+    → isLive (t .heap) (rootAt (t .heap) p r) ≡ true
 root-live {t} held shape p r node root named =
     well-named t p (rootAt (t .heap) p r) (root-object t shape p r node root named) (held .roots p r node root) .live
 
@@ -79,7 +80,8 @@ module _ {t : Table} (formed : Formed t) (shape : Shaped t) (held : WellHeld t) 
       let own = eqb-true (owner o) (e .a) (reach .own) in
       count-held _ (field-held held o (e .c) (rootAt (t .heap) (e .a) (e .d)) (rw own (held .roots (e .a) (e .d) a d)))
   did-held u (send k free) =
-      count-held _ (send-held held (e .a) (e .c) (rootAt (t .heap) (e .a) (e .b)) (root-live held shape (e .a) (e .b) (free .node) (free .root) (free .named)))
+      let live = root-live held shape (e .a) (e .b) (free .node) (free .root) (free .named) in
+      count-held _ (send-held held (e .a) (e .c) (rootAt (t .heap) (e .a) (e .b)) live)
   did-held u (receive {from} {to} {o} k free) =
       let way = reference-way t shape (e .a) (free .place) (free .there) in
       let live = reference-live held (e .a) (free .place) (free .there) in

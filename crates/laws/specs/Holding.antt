@@ -32,7 +32,9 @@ pub record Named (t : Table) (p x : ℕ) : Type 0 where
 pub well-is : (t : Table) (p x : ℕ) → (holdsWell t p x ≡ true) ↔ ((x ≡ NONE) ⊎ Named t p x)
 well-is t p x = (
   λ e. ⊎-elim (λ none. inl (eqb-true x NONE none)) (λ rest. inr (named (both .0 rest))) (either .0 e),
-  λ w. either .1 (⊎-elim (λ none. inl (eq-eqb x NONE none)) (λ n. inr (both .1 (n .live, ways .1 (⊎-elim (λ own. inl (eq-eqb (owner x) p own)) inr (n .way))))) w),
+  λ w.
+      let way : Named t p x → (ownedBy p x ≡ true) ⊎ (isPresent (entryAt t p x) ≡ true) = λ n. ⊎-elim (λ own. inl (eq-eqb (owner x) p own)) inr (n .way) in
+      either .1 (⊎-elim (λ none. inl (eq-eqb x NONE none)) (λ n. inr (both .1 (n .live, ways .1 (way n)))) w),
 )
   where
     ways : ((ownedBy p x or isPresent (entryAt t p x)) ≡ true) ↔ ((ownedBy p x ≡ true) ⊎ (isPresent (entryAt t p x) ≡ true))

@@ -42,7 +42,8 @@ root-either h p r x q s = ⊎-elim (λ new. at-p (new .0) (new .1)) (λ same. in
         ⊎-elim (λ new. inl (same, there ∙ new .1)) (λ old. inr (there ∙ old ∙ rw same)) (set-either (rootsAt h p .at) r s x 0)
 
 -- object a after object o was set
-pub object-either : (h : Heap) (o : ℕ) (x : Object) (a : ℕ) → ((a ≡ o) × (objectAt (withObject h o x) a ≡ x)) ⊎ (objectAt (withObject h o x) a ≡ objectAt h a)
+pub object-either : (h : Heap) (o : ℕ) (x : Object) (a : ℕ)
+    → ((a ≡ o) × (objectAt (withObject h o x) a ≡ x)) ⊎ (objectAt (withObject h o x) a ≡ objectAt h a)
 object-either h o x a = set-either (h .objects) o a x _
 
 -- the entry of object a at node q after that of object o at node p was set
@@ -55,7 +56,8 @@ entry-either t p o e q a = ⊎-elim (λ new. of-o (new .0) (new .1)) (λ same. i
         → ((q ≡ p) × (a ≡ o) × (entryAt (withEntry t p o e) q a ≡ e)) ⊎ (entryAt (withEntry t p o e) q a ≡ entryAt t q a)
     of-o same c =
         let there : entryAt (withEntry t p o e) q a ≡ entryIn (cellWith (cellAt t o) p e) q = ap (λ (k : Cell). entryIn k q) c in
-        ⊎-elim (λ new. inl (new .0, same, there ∙ ap (λ (k : Slot). k .held) (new .1))) (λ old. inr (there ∙ ap (λ (k : Slot). k .held) old ∙ rw same))
+        ⊎-elim (λ new. inl (new .0, same, there ∙ ap (λ (k : Slot). k .held) (new .1)))
+        (λ old. inr (there ∙ ap (λ (k : Slot). k .held) old ∙ rw same))
         (set-either (cellAt t o .at) p q (record { held = e }) _)
 
 -- the message in place a after that in place s was set

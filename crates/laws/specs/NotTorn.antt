@@ -29,13 +29,13 @@ use Rattle.step.specs.declared.Kind.{Kind}
 use Rattle.step.specs.declared.Kind.the-variants.{New, Move, Clear, Load, Store, Send, Receive, Settle, Collect, Drop, Unknown}
 use Rattle.step.specs.declared.Outcome.{Outcome}
 use Rattle.step.specs.Clear.{clear}
-use Rattle.step.specs.Collect.{collectHolding, collectKeeping, heldAt, kept}
+use Rattle.step.specs.Collect.{collectHolding, collectKeeping, kept}
 use Rattle.step.specs.Drop.{dropOf}
 use Rattle.step.specs.Event.{fitsEvent, kindOf, rangesOf}
 use Rattle.step.specs.Load.{load, outOfReach}
 use Rattle.step.specs.Move.{move}
 use Rattle.step.specs.New.{new}
-use Rattle.step.specs.Outcome.{by, refused}
+use Rattle.step.specs.Outcome.{Rule, by, refused}
 use Rattle.step.specs.Receive.{receiveOf}
 use Rattle.step.specs.Send.{isDeadOwn, send}
 use Rattle.step.specs.Settle.{settleOf}
@@ -57,7 +57,8 @@ Spares k [] = Unit {0}
 Spares k (r ∷ rs) = (r .applies ≡ true → r .number ≢ k) × (r .applies ≡ false → Spares k rs)
 
 -- then the answer is another, if the effect's is once none applies
-spared : (t : Table) (k : ℕ) (rs : List Refusal) (x : Outcome) → Spares k rs → (NoneApplies rs → x .answer ≢ k) → answered (refused t) rs x .answer ≢ k
+spared : (t : Table) (k : ℕ) (rs : List Refusal) (x : Outcome) → Spares k rs → (NoneApplies rs → x .answer ≢ k)
+    → answered (refused t) rs x .answer ≢ k
 spared t k [] x s after = after tt
 spared t k (r ∷ rs) x s after = go (r .applies) refl (λ passes. spared t k rs x (s .1 passes) (λ none. after (passes, none)))
   where
@@ -88,6 +89,10 @@ module _ {t : Table} (shape : Shaped t) (held : WellHeld t) (whole : CountsWhole
   -- a test that fails does not apply
   never : {n : ℕ} (b : Bool) → b ≡ false → b ≡ true → n ≢ k
   never b fails applies = absurd (false≢true (sym fails ∙ applies))
+
+  -- a rule that does what it is asked does not answer k, if its refusals don't
+  rule-spared : (rule : Rule) → rule .effect .answer ≡ ACCEPTED → Spares k (rule .refusals) → by t rule .answer ≢ k
+  rule-spared rule done s = spared t k (rule .refusals) (rule .effect) s (λ none. rw done (other ACCEPTED refl))
 
   -- LOAD, STORE
   reach-spared : (p q : ℕ) → p < NODES → q < ROOTS → Spares k (outOfReach t p (rootAt (t .heap) p q))
@@ -124,7 +129,8 @@ module _ {t : Table} (shape : Shaped t) (held : WellHeld t) (whole : CountsWhole
 
       sends : eqb p q ≡ false → isNone x ≡ false → (isDeadOwn t p x or refuses (sent p q x (entryAt t p x))) ≡ false
       sends apart named =
-          let act = whole .sends p q x node receiver (eqb-false p q apart) (root-object t shape p r node root named) left (way named (ownedBy p x) refl) in
+          let number = root-object t shape p r node root named in
+          let act = whole .sends p q x node receiver (eqb-false p q apart) number left (way named (ownedBy p x) refl) in
           rw (send-alive shape held p node r root named) act
 
   receive-spared : (s r : ℕ) → s < PLACES → by t (receiveOf t s r (messageAt t s)) .answer ≢ k
@@ -134,10 +140,10 @@ module _ {t : Table} (shape : Shaped t) (held : WellHeld t) (whole : CountsWhole
       go : (x : Message) → messageAt t s ≡ x → by t (receiveOf t s r x) .answer ≢ k
       go Empty there = other NOMSG refl
       go (Decrement from to o m n) there = other NOMSG refl
-      go (Reference from to o) there = spared t k (receiveOf t s r (Reference from to o) .refusals) _ (
+      go (Reference from to o) there = rule-spared (receiveOf t s r (Reference from to o)) refl (
         λ a. other ROOT refl,
         λ empty. (never _ (rw (receive-alive shape held s place there) (whole .receives s place left there)), λ none. tt),
-      ) (λ none. other ACCEPTED refl)
+      )
 
   settle-spared : (s : ℕ) → s < PLACES → by t (settleOf t s (messageAt t s)) .answer ≢ k
   unfolding settleOf
@@ -147,36 +153,36 @@ module _ {t : Table} (shape : Shaped t) (held : WellHeld t) (whole : CountsWhole
       go Empty there = other NOMSG refl
       go (Reference from to o) there = other NOMSG refl
       go (Decrement from to o m n) there =
-          spared t k (settleOf t s (Decrement from to o m n) .refusals) _ (never _ (whole .settles s place left there), λ none. tt) (λ none. other ACCEPTED refl)
+          rule-spared (settleOf t s (Decrement from to o m n)) refl (never _ (whole .settles s place left there), λ none. tt)
 
   drop-spared : (p o : ℕ) (x : Entry) → by t (dropOf t p o x) .answer ≢ k
   unfolding dropOf
   drop-spared p o Absent = other NOENTRY refl
-  drop-spared p o (AtOwner d) = spared t k (dropOf t p o (AtOwner d) .refusals) _ (λ a. other BUSY refl, λ none. tt) (λ none. other ACCEPTED refl)
+  drop-spared p o (AtOwner d) = rule-spared (dropOf t p o (AtOwner d)) refl (λ a. other BUSY refl, λ none. tt)
   drop-spared p o (Elsewhere x) =
-      spared t k (dropOf t p o (Elsewhere x) .refusals) _ (λ a. other BUSY refl, λ idle. (λ a. other FULL refl, λ none. tt)) (λ none. other ACCEPTED refl)
+      rule-spared (dropOf t p o (Elsewhere x)) refl (λ a. other BUSY refl, λ idle. (λ a. other FULL refl, λ none. tt))
 
   -- by kind
   kind-spared : (x : Kind) → Below (rangesOf x) e → by t (ruleFor x t e) .answer ≢ k
   unfolding ruleFor new move clear load store send collectKeeping collectHolding
-  kind-spared New of = spared t k (new t (e .a) (e .b) .refusals) _ (new-spared (e .a) (e .b) (of .a)) (λ none. other ACCEPTED refl)
+  kind-spared New of = rule-spared (new t (e .a) (e .b)) refl (new-spared (e .a) (e .b) (of .a))
   kind-spared Move of = other ACCEPTED refl
   kind-spared Clear of = other ACCEPTED refl
-  kind-spared Load of = spared t k (load t (e .a) (e .b) (e .c) (e .d) .refusals) _ (reach-spared (e .a) (e .c) (of .a) (of .c)) (λ none. other ACCEPTED refl)
-  kind-spared Store of = spared t k (store t (e .a) (e .b) (e .c) (e .d) .refusals) _ (reach-spared (e .a) (e .b) (of .a) (of .b)) (λ none. other ACCEPTED refl)
-  kind-spared Send of = spared t k (send t (e .a) (e .b) (e .c) .refusals) _ (send-spared (e .a) (e .b) (e .c) (of .a) (of .b) (of .c)) (λ none. other ACCEPTED refl)
+  kind-spared Load of = rule-spared (load t (e .a) (e .b) (e .c) (e .d)) refl (reach-spared (e .a) (e .c) (of .a) (of .c))
+  kind-spared Store of = rule-spared (store t (e .a) (e .b) (e .c) (e .d)) refl (reach-spared (e .a) (e .b) (of .a) (of .b))
+  kind-spared Send of = rule-spared (send t (e .a) (e .b) (e .c)) refl (send-spared (e .a) (e .b) (e .c) (of .a) (of .b) (of .c))
   kind-spared Receive of = receive-spared (e .a) (e .b) (of .a)
   kind-spared Settle of = settle-spared (e .a) (of .a)
   kind-spared Collect of =
-      spared t k (collectHolding t (e .a) (kept t (e .a)) (heldAt t (e .a) (kept t (e .a))) .refusals) _
-      (never _ (collect-whole shape held (e .a) (of .a)), λ none. tt) (λ none. other ACCEPTED refl)
+      rule-spared (collectKeeping t (e .a) (kept t (e .a))) refl (never _ (collect-whole shape held (e .a) (of .a)), λ none. tt)
   kind-spared Drop of = drop-spared (e .a) (e .b) (entryAt t (e .a) (e .b))
   kind-spared Unknown of = absurd (omega (arith, of .a))
 
 -- ---- every event
 
 -- past what any event may be refused for
-step-spared : {t : Table} → fitsTable t ≡ true → WellHeld t → CountsWhole t → (k : ℕ) → ((n : ℕ) → isOther n ≡ true → n ≢ k) → (e : Event) → step t e .answer ≢ k
+step-spared : {t : Table} → fitsTable t ≡ true → WellHeld t → CountsWhole t → (k : ℕ) → ((n : ℕ) → isOther n ≡ true → n ≢ k)
+    → (e : Event) → step t e .answer ≢ k
 unfolding step fitsEvent
 step-spared {t} shape held whole k other e =
     spared t k (common t e) (oneMore (t .count) (by t (ruleOf t e)))

@@ -21,7 +21,8 @@ use Rattle.entry.specs.Entry.{both, isDirectory, isPresent, more}
 use Rattle.entry.specs.Fits.{fitsReturns}
 
 -- whichever of two acts a test picks, it leaves Presence as both do
-either-presence : (b : Bool) (x y : RemoteAct) (v : Bool) → x .entry .presence ≡ v → y .entry .presence ≡ v → (if b then x else y) .entry .presence ≡ v
+either-presence : (b : Bool) (x y : RemoteAct) (v : Bool) → x .entry .presence ≡ v → y .entry .presence ≡ v
+    → (if b then x else y) .entry .presence ≡ v
 either-presence true x y v p q = p
 either-presence false x y v p q = q
 
@@ -75,7 +76,8 @@ unfolding received remoteReceivedAgain
 received-present q p o Absent away none takes = rw (ne-eqb p (owner o) away)
 received-present q p o (AtOwner d) away none takes = absurd (true≢false none)
 received-present q p o (Elsewhere e) away none takes =
-    either-accepts (not (eqb (e .parent) q)) _ _ (λ a. refl) (either-accepts (ltb (e .«ref_weight» .0) MOST) _ _ (λ a. refl) (λ a. absurd (true≢false a))) takes
+    either-accepts (not (eqb (e .parent) q)) _ _ (λ a. refl)
+    (either-accepts (ltb (e .«ref_weight» .0) MOST) _ _ (λ a. refl) (λ a. absurd (true≢false a))) takes
 
 -- ---- SETTLE
 

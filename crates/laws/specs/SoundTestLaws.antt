@@ -112,14 +112,18 @@ module _ (t : Table) where
     λ h. every-all NODES _ (λ p node. every-all ROOTS _ (λ r root. h p r node root)),
   )
 
-  fields-is : (passesFields t ≡ true) ↔ ((o f : ℕ) → o < OBJECTS → f < FIELDS → isLive (t .heap) o ≡ true → holdsWell t (owner o) (fieldAt (t .heap) o f) ≡ true)
+  fields-is : (passesFields t ≡ true)
+      ↔ ((o f : ℕ) → o < OBJECTS → f < FIELDS → isLive (t .heap) o ≡ true → holdsWell t (owner o) (fieldAt (t .heap) o f) ≡ true)
   unfolding passesFields
   fields-is = (
-    λ e o f lt small live. every-at FIELDS (λ k. holdsWell t (owner o) (fieldAt (t .heap) o k)) (implies-is (isLive (t .heap) o) _ .0 (every-at OBJECTS _ e o lt) live) f small,
+    λ e o f lt small live.
+        let each = implies-is (isLive (t .heap) o) _ .0 (every-at OBJECTS _ e o lt) live in
+        every-at FIELDS (λ k. holdsWell t (owner o) (fieldAt (t .heap) o k)) each f small,
     λ h. every-all OBJECTS _ (λ o lt. implies-is (isLive (t .heap) o) _ .1 (λ live. every-all FIELDS _ (λ f small. h o f lt small live))),
   )
 
-  directories-is : (passesDirectories t ≡ true) ↔ ((p o : ℕ) → p < NODES → o < OBJECTS → isDirectory (entryAt t p o) ≡ true → isLive (t .heap) o ≡ true)
+  directories-is : (passesDirectories t ≡ true)
+      ↔ ((p o : ℕ) → p < NODES → o < OBJECTS → isDirectory (entryAt t p o) ≡ true → isLive (t .heap) o ≡ true)
   unfolding passesDirectories
   directories-is =
       let is = everywhere-is (λ p o. not (isDirectory (entryAt t p o)) or isLive (t .heap) o) in (

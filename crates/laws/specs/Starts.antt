@@ -94,7 +94,8 @@ reclaimed-is t p o = (
   λ e.
       let (own, rest) = outer .0 e in
       let (live, off) = inner .0 rest in
-      record { own = eqb-true (owner o) p own; live = live; unreached = λ way. true≢false (sym (kept-is t p o .1 way) ∙ not-true (isMarked (kept t p) o) off) },
+      let unreached : Kept t p o → ⊥ = λ way. true≢false (sym (kept-is t p o .1 way) ∙ not-true (isMarked (kept t p) o) off) in
+      record { own = eqb-true (owner o) p own; live = live; unreached = unreached },
   λ r. outer .1 (eq-eqb (owner o) p (r .own), inner .1 (r .live, unmarked (isMarked (kept t p) o) (λ on. r .unreached (kept-is t p o .0 on)))),
 )
   where

@@ -43,7 +43,8 @@ module _ {t : Table} (held : WellHeld t) (bridge : Bridge t) where
 
     -- whatever of p is used is kept by COLLECT at p
     pub used-kept : {x : ℕ} → Used t x → owner x ≡ p → Kept t p x
-    used-kept {x} (started w l) own = started (record { number = w .number; inside = eq-eqb (owner x) p own }) (starts-is t p x .1 (⊎-elim by-root by-air (inUse-is t x .0 l)))
+    used-kept {x} (started w l) own =
+        started (record { number = w .number; inside = eq-eqb (owner x) p own }) (starts-is t p x .1 (⊎-elim by-root by-air (inUse-is t x .0 l)))
       where
         by-root : InRoot t x → ((r : ℕ) × (r < ROOTS) × (rootAt (t .heap) p r ≡ x)) ⊎ Counted t p x
         by-root y =

@@ -44,7 +44,8 @@ live-not-dead t p o live = go (ownedBy p o)
 well-may : (t : Table) (p x : ℕ) → holdsWell t p x ≡ true → mayHold t p x ≡ true
 well-may t p x well = go (isNone x) (isLive (t .heap) x) well
   where
-    go : (none live : Bool) → (none or (live and (ownedBy p x or isPresent (entryAt t p x)))) ≡ true → (none or ownedBy p x or isPresent (entryAt t p x)) ≡ true
+    go : (none live : Bool) → (none or (live and (ownedBy p x or isPresent (entryAt t p x)))) ≡ true
+        → (none or ownedBy p x or isPresent (entryAt t p x)) ≡ true
     go true live e = refl
     go false true e = e
     go false false e = absurd (false≢true e)
@@ -127,7 +128,9 @@ module _ {t : Table} (shape : Shaped t) (held : WellHeld t) where
     -- COLLECT is not torn
     pub collect-whole : collectTorn t p (kept t p) (heldAt t p (kept t p)) ≡ false
     unfolding collectTorn
-    collect-whole = rw (every-all OBJECTS (λ o. not (isMarked (kept t p) o) or isLive (t .heap) o) marked-live, all-held (mayHold t p) (heldAt t p (kept t p)) held-may)
+    collect-whole =
+        let each = every-all OBJECTS (λ o. not (isMarked (kept t p) o) or isLive (t .heap) o) marked-live in
+        rw (each, all-held (mayHold t p) (heldAt t p (kept t p)) held-may)
       where
         marked-live : (o : ℕ) → o < OBJECTS → (not (isMarked (kept t p) o) or isLive (t .heap) o) ≡ true
         marked-live o lt = go (isMarked (kept t p) o) (λ on. kept-live (kept-is t p o .0 on))
