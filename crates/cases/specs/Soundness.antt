@@ -39,6 +39,7 @@ unfoldable pub soundAlong : Table → List Event → List Bool
 soundAlong t [] = isSound t ∷ []
 soundAlong t (e ∷ es) = isSound t ∷ soundAlong (step t e .table) es
 
+-- it passes at all thirteen
 pub twelve-sound : soundAlong freshTable twelve ≡ replicate 13 true
 unfolding test soundAlong
 twelve-sound = refl
@@ -49,6 +50,7 @@ twelve-sound = refl
 pub data Condition : Type 0 where
   Shape LawA LawB LawC Roots Fields Directories References Counts Returns Owed : Condition
 
+-- a condition is named where its test fails
 abbrev unless : Condition → Bool → List Condition
 unless c b = if b then [] else c ∷ []
 

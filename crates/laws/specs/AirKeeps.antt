@@ -92,11 +92,13 @@ module _ {t : Table} (held : WellHeld t) where
 
   -- DROP of an entry that may go: of a remote one, and of a directory
   module _ (p o : ℕ) (goes : mayGo (entryAt t p o) ≡ true) where
+    -- a remote one: its last words go into the air
     pub drop-held : (s : ℕ) (e : Remote) → WellHeld (withEntry (withMessage t s (lastWords p o e)) p o Absent)
     drop-held s e =
         written-held p o Absent s (lastWords p o e)
         (λ h. absurd (may-go-idle (entryAt t p o) goes h)) (λ d. absurd (false≢true d)) (λ x h. absurd (false≢true h))
 
+    -- a directory
     pub clear-held : WellHeld (withEntry t p o Absent)
     clear-held = grows-held held (record {
       keeps = record { live = λ x l. l; present = present-by t p o Absent (λ h. absurd (may-go-idle (entryAt t p o) goes h)) };
@@ -108,12 +110,15 @@ module _ {t : Table} (held : WellHeld t) where
 
   -- RECEIVE of a live object, at a node that is its owner or has no directory of it
   module _ (s r from to o : ℕ) (live : isLive (t .heap) o ≡ true) (away : to ≢ owner o → isDirectory (entryAt t to o) ≡ false) where
+    -- what stands there before
     abbrev found : Entry
     found = entryAt t to o
 
+    -- and after
     abbrev after : Entry
     after = received from to o found .entry
 
+    -- the receiver holds it well
     pub receive-held : refuses (received from to o found) ≡ false → entryAt (withEntry t to o after) to o ≡ after
         → WellHeld (withReceived t s r from to o)
     receive-held takes there = grows-held held (record {

@@ -43,9 +43,11 @@ module _ (t : Table) (p x : ℕ) where
       holds-append (rootsOf (t .heap) p) (heldBy (t .heap) (kept t p)) x
       ∙ or-passes (holds (rootsOf (t .heap) p) x) (holds (heldBy (t .heap) (kept t p)) x) .1 why
 
+  -- so it holds what a root names
   root-holds : (r : ℕ) → r < ROOTS → rootAt (t .heap) p r ≡ x → isHeldAt t p x ≡ true
   root-holds r lt e = either-holds (inl (roots-hold (t .heap) p x .1 (r, lt, e)))
 
+  -- and what a field of a kept object names
   field-holds : (o f : ℕ) → o < OBJECTS → f < FIELDS → Kept t p o → fieldAt (t .heap) o f ≡ x → isHeldAt t p x ≡ true
   field-holds o f number lt way e =
       let marked = kept-is t p o .1 way in

@@ -79,6 +79,7 @@ module _ (t : Table) (p : ℕ) where
   -- ---- entries
 
   module _ (o : ℕ) (lt : o < OBJECTS) where
+    -- the cell of an object is what COLLECT makes of it
     cell-after : cellAt (collected t p) o ≡ cellCollected t p (kept t p) (heldAt t p (kept t p)) o (cellAt t o)
     cell-after = getD-list OBJECTS (λ x. cellCollected t p (kept t p) (heldAt t p (kept t p)) x (cellAt t x)) o _ lt
 
@@ -88,6 +89,7 @@ module _ (t : Table) (p : ℕ) where
       gone-cell : isGone t p o ≡ true → Changed (cellWith (cellAt t o) p Absent)
       unused-cell : isGone t p o ≡ false → owner o ≢ p → isHeldAt t p o ≡ false → Changed (cellWith (cellAt t o) p (setUnused (entryAt t p o)))
 
+    -- one of the three it is
     changed : Changed (cellAt (collected t p) o)
     unfolding cellCollected
     changed = rw cell-after (go (ownedBy p o) (isGone t p o) (isHeldAt t p o) refl refl refl)

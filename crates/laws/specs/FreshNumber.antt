@@ -82,11 +82,12 @@ module _ (t : Table) (p r : ℕ) (accepted : step t (event NEW p r 0 0) .answer 
   unfolding kindOf ruleFor new
   free = done t (event NEW p r 0 0) accepted refl .free
 
-  -- there was room, and the node is one of the field's
+  -- there was room
   room : freeOwn (t .heap) p < OWNED
   unfolding new
   room = ltb-true (freeOwn (t .heap) p) OWNED (not-false (ltb (freeOwn (t .heap) p) OWNED) (free .1 .0))
 
+  -- the node is one of the field's
   node : p < NODES
   unfolding fitsEvent kindOf
   node = ltb-true p NODES (and-passes (ltb p NODES) _ .0 (met t (event NEW p r 0 0) accepted .operands) .0)

@@ -33,6 +33,7 @@ pub record Grows (t u : Table) : Type 0 where
   pub directories : (p o : ℕ) → isDirectory (entryAt u p o) ≡ true → (isDirectory (entryAt t p o) ≡ true) ⊎ (isLive (t .heap) o ≡ true)
   pub references : (s o : ℕ) → isReferenceOf o (messageAt u s) ≡ true → (isReferenceOf o (messageAt t s) ≡ true) ⊎ (isLive (t .heap) o ≡ true)
 
+-- then all stays held well
 pub grows-held : {t u : Table} → WellHeld t → Grows t u → WellHeld u
 grows-held {t} {u} held grows = record {
   roots = λ p r node lt. ⊎-elim (λ e. rw e (keeps-well keeps p (rootAt (t .heap) p r) (held .roots p r node lt))) (λ well. well) (grows .roots p r);

@@ -24,9 +24,11 @@ count-held n held = record { roots = held .roots; fields = held .fields; directo
 
 -- the object that NEW takes is one of the node's own
 module _ (t : Table) (p : ℕ) (room : freeOwn (t .heap) p < OWNED) where
+  -- p owns it
   pub chosen-own : owner (chosen t p) ≡ p
   chosen-own = omega arith
 
+  -- and it has an object number
   pub chosen-number : p < NODES → chosen t p < OBJECTS
   chosen-number node = omega arith
 

@@ -72,5 +72,6 @@ pub record WellHeld (t : Table) : Type 0 where
   pub directories : (p o : ℕ) → p < NODES → o < OBJECTS → isDirectory (entryAt t p o) ≡ true → isLive (t .heap) o ≡ true
   pub references : (s o : ℕ) → s < PLACES → isReferenceOf o (messageAt t s) ≡ true → isLive (t .heap) o ≡ true
 
+-- Sound says so
 pub sound-held : {t : Table} → Sound t → WellHeld t
 sound-held sound = record { roots = sound .roots; fields = sound .fields; directories = sound .directories; references = sound .references }

@@ -69,6 +69,7 @@ spared t k (r ∷ rs) x s after = go (r .applies) refl (λ passes. spared t k rs
 
 -- ---- what is asked of the counts
 
+-- no act on an entry is refused
 pub record CountsWhole (t : Table) : Type 0 where
   -- SEND by the owner, or by a node with an entry in use, while events are left
   pub sends : (p q o : ℕ) → p < NODES → q < NODES → p ≢ q → o < OBJECTS → t .count < EVENTS
@@ -101,6 +102,7 @@ module _ {t : Table} (shape : Shaped t) (held : WellHeld t) (whole : CountsWhole
     λ named. (λ a. other AWAY refl, λ own. (never _ (rw (root-live held shape p q node root named)), λ none. tt)),
   )
 
+  -- NEW
   new-spared : (p r : ℕ) → p < NODES → Spares k (new t p r .refusals)
   unfolding new
   new-spared p r node = (
@@ -113,6 +115,7 @@ module _ {t : Table} (shape : Shaped t) (held : WellHeld t) (whole : CountsWhole
     ),
   )
 
+  -- SEND
   send-spared : (p r q : ℕ) → p < NODES → r < ROOTS → q < NODES → Spares k (send t p r q .refusals)
   unfolding send
   send-spared p r q node root receiver = (
@@ -133,6 +136,7 @@ module _ {t : Table} (shape : Shaped t) (held : WellHeld t) (whole : CountsWhole
           let act = whole .sends p q x node receiver (eqb-false p q apart) number left (way named (ownedBy p x) refl) in
           rw (send-alive shape held p node r root named) act
 
+  -- RECEIVE
   receive-spared : (s r : ℕ) → s < PLACES → by t (receiveOf t s r (messageAt t s)) .answer ≢ k
   unfolding receiveOf
   receive-spared s r place = go (messageAt t s) refl
@@ -145,6 +149,7 @@ module _ {t : Table} (shape : Shaped t) (held : WellHeld t) (whole : CountsWhole
         λ empty. (never _ (rw (receive-alive shape held s place there) (whole .receives s place left there)), λ none. tt),
       )
 
+  -- SETTLE
   settle-spared : (s : ℕ) → s < PLACES → by t (settleOf t s (messageAt t s)) .answer ≢ k
   unfolding settleOf
   settle-spared s place = go (messageAt t s) refl
@@ -155,6 +160,7 @@ module _ {t : Table} (shape : Shaped t) (held : WellHeld t) (whole : CountsWhole
       go (Decrement from to o m n) there =
           rule-spared (settleOf t s (Decrement from to o m n)) refl (never _ (whole .settles s place left there), λ none. tt)
 
+  -- DROP
   drop-spared : (p o : ℕ) (x : Entry) → by t (dropOf t p o x) .answer ≢ k
   unfolding dropOf
   drop-spared p o Absent = other NOENTRY refl

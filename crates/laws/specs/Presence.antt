@@ -42,6 +42,7 @@ remote-sent : (e : Remote) → remoteSent e .entry .presence ≡ e .presence
 unfolding remoteSent
 remote-sent e = either-presence (ltb (e .rc) MOST) _ _ (e .presence) refl refl
 
+-- the same of an entry that is sent home
 remote-home : (e : Remote) → remoteSentHome e .entry .presence ≡ e .presence
 unfolding remoteSentHome
 remote-home e = either-presence (stays fitsReturns (e .«msg_ctr») (more (e .«msg_ctr»))) _ _ (e .presence) refl refl

@@ -40,10 +40,12 @@ use Rattle.laws.specs.Within.{Within}
 
 -- ---- Sound is the shape, the counts' part and the heap's part
 
+-- the counts' part
 counted-of : {t : Table} → Sound t → Counted t
 counted-of sound =
     record { lawA = sound .lawA; lawB = sound .lawB; lawC = sound .lawC; counts = sound .counts; returns = sound .returns; owed = sound .owed }
 
+-- all parts together
 all-sound : {t : Table} → Formed t → fitsTable t ≡ true → Counted t → WellHeld t → Sound t
 all-sound formed shape counted held = record {
   formed = formed;
@@ -89,6 +91,7 @@ sound-counts {t} sound = record {
 
 -- ---- every accepted event
 
+-- Sound before, Sound after
 pub keeps-sound : Keeps Sound
 keeps-sound t e formed accepted sound =
     let shape = keeps-shape t e formed accepted in
@@ -130,6 +133,7 @@ CollectSafe t =
     (p o : ℕ) → step t (event COLLECT p 0 0 0) .answer ≡ ACCEPTED → isLive (t .heap) o ≡ true
     → isLive (step t (event COLLECT p 0 0 0) .table .heap) o ≡ false → Used t o → ⊥
 
+-- it is so in every table that accepted events make
 pub always-collect-safe : Always CollectSafe
 always-collect-safe es t run p o accepted = let sound = always-sound es t run in collect-safe t p accepted sound (sound-bridge sound) o
 
@@ -137,5 +141,6 @@ always-collect-safe es t run p o accepted = let sound = always-sound es t run in
 abbrev pub NewFresh : Table → Type 0
 NewFresh t = (p r : ℕ) → step t (event NEW p r 0 0) .answer ≡ ACCEPTED → Unnamed t (valueOf (step t (event NEW p r 0 0) .deed))
 
+-- it is so in every table that accepted events make
 pub always-new-fresh : Always NewFresh
 always-new-fresh es t run p r accepted = let sound = always-sound es t run in new-unnamed t p r accepted sound (sound-bridge sound)

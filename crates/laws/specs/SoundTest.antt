@@ -45,32 +45,37 @@ passesB t =
 unfoldable pub passesC : Table → Bool
 passesC t = everywhere (λ p o. isAbsent (entryAt t p o) or leb (depthNumber (depth t p o)) STEPS)
 
--- roots and fields of live objects are held well
+-- roots are held well
 unfoldable pub passesRoots : Table → Bool
 passesRoots t = every NODES (λ p. every ROOTS (λ r. holdsWell t p (rootAt (t .heap) p r)))
 
+-- so are the fields of live objects
 unfoldable pub passesFields : Table → Bool
 passesFields t = every OBJECTS (λ o. not (isLive (t .heap) o) or every FIELDS (λ f. holdsWell t (owner o) (fieldAt (t .heap) o f)))
 
--- directories, and references in the air, are of live objects
+-- directories are of live objects
 unfoldable pub passesDirectories : Table → Bool
 passesDirectories t = everywhere (λ p o. not (isDirectory (entryAt t p o)) or isLive (t .heap) o)
 
+-- a reference is of a live object
 abbrev pub namesLive : Table → Message → Bool
 namesLive t Empty = true
 namesLive t (Reference from to o) = isLive (t .heap) o
 namesLive t (Decrement from to o m n) = true
 
+-- every message is in order so
 unfoldable pub passesReferences : Table → Bool
 passesReferences t = every PLACES (λ s. namesLive t (messageAt t s))
 
--- counts stay within the event count
+-- RC stays within the event count
 unfoldable pub passesCounts : Table → Bool
 passesCounts t = everywhere (λ p o. leb (rcOf (entryAt t p o)) (t .count))
 
+-- so do the return counts above zero, for each object
 unfoldable pub passesReturns : Table → Bool
 passesReturns t = every OBJECTS (λ o. leb (returnsAbove t o) (t .count))
 
+-- and no return count is further below zero
 unfoldable pub passesOwed : Table → Bool
 passesOwed t = everywhere (λ p o. leb (below (msgCtrOf (entryAt t p o))) (t .count))
 

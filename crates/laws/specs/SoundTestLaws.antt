@@ -44,13 +44,15 @@ implies-is : (a b : Bool) → ((not a or b) ≡ true) ↔ (a ≡ true → b ≡ 
 implies-is true b = (λ e h. e, λ h. h refl)
 implies-is false b = (λ e h. absurd (false≢true h), λ h. refl)
 
--- two numbers, two whole numbers, an order
+-- two numbers are the same
 eqb-is : (m n : ℕ) → (eqb m n ≡ true) ↔ (m ≡ n)
 eqb-is m n = (eqb-true m n, eq-eqb m n)
 
+-- and a number that is at most another
 leb-is : (m n : ℕ) → (leb m n ≡ true) ↔ (m ≤ n)
 leb-is m n = (leb-true m n, le-leb m n)
 
+-- two whole numbers are the same
 same-is : (x y : ℤ) → (isSame x y ≡ true) ↔ (x ≡ y)
 same-is (pos m) (pos n) = (λ e. ap pos (eqb-true m n e), λ e. eq-eqb m n (cc))
 same-is (pos m) (negsuc n) = (λ e. absurd (false≢true e), λ e. absurd (pos-ne-negsuc m n e))
@@ -60,6 +62,7 @@ same-is (negsuc m) (negsuc n) = (λ e. ap negsuc (eqb-true m n e), λ e. eq-eqb 
 -- ---- the conditions, one by one
 
 module _ (t : Table) where
+  -- law A
   lawA-is : (passesA t ≡ true) ↔ LawA t
   unfolding passesA
   lawA-is =
@@ -68,13 +71,15 @@ module _ (t : Table) where
         λ h. is .1 (λ p o node lt. eqb-is (rcOf (entryAt t p o)) (inflow t p o) .1 (h p o node lt)),
       )
 
-  -- the two sides of law B
+  -- return counts
   abbrev returned : ℕ → ℤ
   returned o = total NODES (λ p. msgCtrOf (entryAt t p o)) +ℤ total PLACES (λ s. returnsIn o (messageAt t s))
 
+  -- references on their way home
   abbrev homeward : ℕ → ℤ
   homeward o = pos (howMany PLACES (λ s. isHomeward o (messageAt t s)))
 
+  -- law B
   lawB-is : (passesB t ≡ true) ↔ LawB t
   unfolding passesB
   lawB-is =
@@ -97,6 +102,7 @@ module _ (t : Table) where
       go true = (λ e h. absurd (true≢false h), λ h. refl)
       go false = (λ e h. leb-true _ _ e, λ h. le-leb _ _ (h refl))
 
+  -- law C
   lawC-is : fitsTable t ≡ true → (passesC t ≡ true) ↔ LawC t
   unfolding passesC
   lawC-is shape =
@@ -105,6 +111,7 @@ module _ (t : Table) where
         λ h. is .1 (λ p o node lt. deep-is shape p o node lt .1 (h p o node lt)),
       )
 
+  -- roots
   roots-is : (passesRoots t ≡ true) ↔ ((p r : ℕ) → p < NODES → r < ROOTS → holdsWell t p (rootAt (t .heap) p r) ≡ true)
   unfolding passesRoots
   roots-is = (
@@ -112,6 +119,7 @@ module _ (t : Table) where
     λ h. every-all NODES _ (λ p node. every-all ROOTS _ (λ r root. h p r node root)),
   )
 
+  -- fields
   fields-is : (passesFields t ≡ true)
       ↔ ((o f : ℕ) → o < OBJECTS → f < FIELDS → isLive (t .heap) o ≡ true → holdsWell t (owner o) (fieldAt (t .heap) o f) ≡ true)
   unfolding passesFields
@@ -122,6 +130,7 @@ module _ (t : Table) where
     λ h. every-all OBJECTS _ (λ o lt. implies-is (isLive (t .heap) o) _ .1 (λ live. every-all FIELDS _ (λ f small. h o f lt small live))),
   )
 
+  -- directories
   directories-is : (passesDirectories t ≡ true)
       ↔ ((p o : ℕ) → p < NODES → o < OBJECTS → isDirectory (entryAt t p o) ≡ true → isLive (t .heap) o ≡ true)
   unfolding passesDirectories
@@ -137,6 +146,7 @@ module _ (t : Table) where
   names-is (Reference from to x) = (λ e o h. rw (eqb-true x o h) at e, λ h. h x (eq-eqb x x refl))
   names-is (Decrement from to x m n) = (λ e o h. absurd (false≢true h), λ h. refl)
 
+  -- references
   references-is : (passesReferences t ≡ true) ↔ ((s o : ℕ) → s < PLACES → isReferenceOf o (messageAt t s) ≡ true → isLive (t .heap) o ≡ true)
   unfolding passesReferences
   references-is =
@@ -145,18 +155,21 @@ module _ (t : Table) where
         λ h. is .1 (λ s place. names-is (messageAt t s) .1 (λ o. h s o place)),
       )
 
+  -- RC
   counts-is : (passesCounts t ≡ true) ↔ ((p o : ℕ) → p < NODES → o < OBJECTS → rcOf (entryAt t p o) ≤ t .count)
   unfolding passesCounts
   counts-is =
       let is = everywhere-is (λ p o. leb (rcOf (entryAt t p o)) (t .count)) in
       (λ e p o node lt. leb-true _ _ (is .0 e p o node lt), λ h. is .1 (λ p o node lt. le-leb _ _ (h p o node lt)))
 
+  -- return counts above zero
   returns-is : (passesReturns t ≡ true) ↔ ((o : ℕ) → o < OBJECTS → returnsAbove t o ≤ t .count)
   unfolding passesReturns
   returns-is =
       let is = every-is OBJECTS (λ o. leb (returnsAbove t o) (t .count)) in
       (λ e o lt. leb-true _ _ (is .0 e o lt), λ h. is .1 (λ o lt. le-leb _ _ (h o lt)))
 
+  -- return counts below zero
   owed-is : (passesOwed t ≡ true) ↔ ((p o : ℕ) → p < NODES → o < OBJECTS → below (msgCtrOf (entryAt t p o)) ≤ t .count)
   unfolding passesOwed
   owed-is =
@@ -165,6 +178,7 @@ module _ (t : Table) where
 
   -- ---- the whole
 
+  -- what passes is Sound
   pub passes-sound : Formed t → isSound t ≡ true → Sound t
   unfolding isSound
   passes-sound formed e =
@@ -193,6 +207,7 @@ module _ (t : Table) where
         owed = owed-is .0 (ten .1);
       }
 
+  -- and what is Sound passes
   pub sound-passes : Sound t → isSound t ≡ true
   unfolding isSound
   sound-passes sound =

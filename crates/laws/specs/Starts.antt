@@ -89,6 +89,7 @@ pub record Reclaimed (t : Table) (p o : ℕ) : Type 0 where
   pub live : isLive (t .heap) o ≡ true
   pub unreached : Kept t p o → ⊥
 
+-- the test for it says just this
 pub reclaimed-is : (t : Table) (p o : ℕ) → (isReclaimed t p (kept t p) o ≡ true) ↔ Reclaimed t p o
 reclaimed-is t p o = (
   λ e.

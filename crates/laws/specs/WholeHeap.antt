@@ -68,8 +68,9 @@ module _ {t : Table} (shape : Shaped t) (held : WellHeld t) where
         let none = dead-unlisted shape held (chosen t p) (chosen-number t p room node) (chosen-dead t p room) in
         ap isAbsent (rw (chosen-own t p room) at none)
 
-    -- LOAD, STORE: the object in the root is live; it is `root-live`. SEND: it is no dead one of the node's own
+    -- what a root names that isn't empty (LOAD, STORE: that it is live says `root-live` of specs/HeldAfter.antt)
     module _ (r : ℕ) (root : r < ROOTS) (named : isNone (rootAt (t .heap) p r) ≡ false) where
+      -- SEND: it is no dead one of the node's own
       pub send-alive : isDeadOwn t p (rootAt (t .heap) p r) ≡ false
       send-alive = live-not-dead t p (rootAt (t .heap) p r) (root-live held shape p r node root named)
 
