@@ -77,9 +77,11 @@ module _ (A : Adding) where
   first-replaced a b c d rest rest′ ea eb er =
       rw (er, ← ea, ← eb) (A .comm (A .plus b rest) a ∙ swap a b rest ∙ A .comm b (A .plus a rest))
 
-  rest-replaced : (a b c d rest rest′ : A .Number) → d ≡ c → A .plus rest′ a ≡ A .plus rest b → A .plus (A .plus d rest′) a ≡ A .plus (A .plus c rest) b
+  rest-replaced : (a b c d rest rest′ : A .Number) → d ≡ c → A .plus rest′ a ≡ A .plus rest b
+      → A .plus (A .plus d rest′) a ≡ A .plus (A .plus c rest) b
   rest-replaced a b c d rest rest′ ed er = rw ed (A .assoc c rest′ a ∙ ap (A .plus c) er ∙ sym (A .assoc c rest b))
 
+  -- one of the n numbers from k on replaced
   totalFrom-replaced : (k n : ℕ) (f g : ℕ → A .Number) (p : ℕ) → k ≤ p → p < k + n → ((i : ℕ) → k ≤ i → i < k + n → i ≢ p → g i ≡ f i)
       → A .plus (totalFrom k n g) (f p) ≡ A .plus (totalFrom k n f) (g p)
   unfolding totalFrom
@@ -100,6 +102,7 @@ module _ (A : Adding) where
 
   -- ---- nothing to add
 
+  -- so many times nought
   nothingFrom : (k n : ℕ) → totalFrom k n (λ i. A .nought) ≡ A .nought
   unfolding totalFrom
   nothingFrom k zero = refl
@@ -118,6 +121,7 @@ module _ (A : Adding) where
 
 -- ---- sums of natural numbers
 
+-- they are sums of this sort
 sumFrom-is : (k n : ℕ) (f : ℕ → ℕ) → sumFrom k n f ≡ totalFrom natural k n f
 unfolding sumFrom totalFrom
 sumFrom-is k zero f = refl
@@ -136,5 +140,6 @@ someFrom k (suc n) f more = elim (ℕ-discrete (f k) 0) [
   | no ne ↦ (k, omega arith, omega arith)
 ]
 
+-- the same of a sum from 0
 pub sum-some : (n : ℕ) (f : ℕ → ℕ) → 0 < sum n f → Some n (λ i. 0 < f i)
 sum-some n f more = let found = someFrom 0 n f more in (found .0, omega arith, found .2)

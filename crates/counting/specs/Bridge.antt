@@ -28,6 +28,7 @@ module _ (R : Rules) (c : Share R) (lawful : Lawful R c) (shaped : Shaped R c) w
               (shaped .away q lq ne)
         ]
 
+    -- no entry hangs anywhere
     hangs-nowhere : (p : ℕ) → p < R .nodes → Hangs R c p → ⊥
     hangs-nowhere p lp = nobody-hangs (suc (lawful .rank p)) p lp (omega arith)
 
@@ -43,7 +44,8 @@ module _ (R : Rules) (c : Share R) (lawful : Lawful R c) (shaped : Shaped R c) w
     air-nothing s p ls lp = omega (arith, air-counted R c lawful s p ls lp, counts-nothing p lp)
 
   -- where nothing hangs and nothing in the air counts, all return counts are the directory's
-  module _ (no-entry : (p : ℕ) → p < R .nodes → Hangs R c p → ⊥) (no-air : (s p : ℕ) → s < R .places → p < R .nodes → R .air p (c .message s) ≡ 0) where
+  module _ (no-entry : (p : ℕ) → p < R .nodes → Hangs R c p → ⊥)
+      (no-air : (s p : ℕ) → s < R .places → p < R .nodes → R .air p (c .message s) ≡ 0) where
     directory-only : returned R c ≡ R .returns (c .entry (R .owner))
     directory-only =
         ap₂ (R .numbers .plus)
@@ -71,6 +73,7 @@ module _ (R : Rules) (c : Share R) (lawful : Lawful R c) (shaped : Shaped R c) w
 
   -- ---- nobody means clear
 
+  -- nobody else has the object: its directory is clear
   pub nobody-clear : Nobody R c → Clear R c
   nobody-clear nobody = record {
     no-count = omega (

@@ -14,6 +14,7 @@ use Rattle.counting.specs.Adding.{Adding, pairs, swap, total-replaced, s
 use Rattle.counting.specs.Rules.{Rules, Share, inflow, returned, homeward, Lawful, Patch, Placed, Balanced}
 
 module _ (R : Rules) (c d : Share R) (patch : Patch R c d) where
+  -- how return counts are added
   abbrev N : Adding
   N = R .numbers
 
@@ -43,21 +44,31 @@ module _ (R : Rules) (c d : Share R) (patch : Patch R c d) where
   homeward-measured : N .plus (R .of (homeward R d)) (R .of (one (R .home (c .message (patch .place)))))
       ≡ N .plus (R .of (homeward R c)) (R .of (one (R .home (d .message (patch .place)))))
   homeward-measured =
-      sym (R .of-more _ _)
-      ∙ ap (R .of) (sum-replaced (R .places) (λ s. one (R .home (c .message s))) (λ s. one (R .home (d .message s))) (patch .place) (patch .place-number)
-      (λ s ls ne. ap (λ x. one (R .home x)) (patch .messages s ls ne)))
-      ∙ R .of-more _ _
+      let came : R .Message → ℕ = λ x. one (R .home x) in
+      let replaced = sum-replaced (R .places) (λ s. came (c .message s)) (λ s. came (d .message s)) (patch .place) (patch .place-number)
+      (λ s ls ne. ap came (patch .messages s ls ne)) in
+      sym (R .of-more _ _) ∙ ap (R .of) replaced ∙ R .of-more _ _
 
-  module _ (lawful : Lawful R c)
-      (balanced : Balanced R (patch .node) (c .entry (patch .node)) (c .message (patch .place)) (d .entry (patch .node)) (d .message (patch .place))) where
+  -- the act is balanced
+  abbrev pub Fair : Type 0
+  Fair = Balanced R (patch .node) (c .entry (patch .node)) (c .message (patch .place)) (d .entry (patch .node)) (d .message (patch .place))
+
+  module _ (lawful : Lawful R c) (balanced : Fair) where
+    -- law A
     keptA : (p : ℕ) → p < R .nodes → R .rc (d .entry p) ≡ inflow R d p
     keptA p lp = elim (ℕ-discrete p (patch .node)) [
-      | yes e ↦ rw e (omega (arith, measured (R .weight (patch .node)) (R .air (patch .node)), lawful .lawA (patch .node) (patch .node-number), balanced .here))
+      | yes e ↦ rw e (omega (
+        arith,
+        measured (R .weight (patch .node)) (R .air (patch .node)),
+        lawful .lawA (patch .node) (patch .node-number),
+        balanced .here,
+      ))
       | no ne ↦
           let same = ap (R .rc) (patch .entries p lp ne) in
           omega (arith, measured (R .weight p) (R .air p), lawful .lawA p lp, balanced .there p ne)
     ]
 
+    -- law B: what is taken off both sides is what was there before
     keptB : returned R d ≡ R .of (homeward R d)
     keptB =
         let gone = N .plus (R .returns (c .entry (patch .node))) (R .carried (c .message (patch .place))) in
@@ -81,6 +92,7 @@ module _ (R : Rules) (c d : Share R) (patch : Patch R c d) where
     old-falls : (p q : ℕ) → p < R .nodes → q < R .nodes → p ≢ patch .node → 0 < R .weight q (d .entry p) → lawful .rank q < lawful .rank p
     old-falls p q lp lq ne hangs = lawful .falls p q lp lq (rw (patch .entries p lp ne) at hangs)
 
+    -- law C: the rank stays, or the new entry is put above the one under which it hangs, which is not its own: nothing hangs under it yet
     keptC : Placed R (patch .node) (c .entry (patch .node)) (d .entry (patch .node))
         → (rank : ℕ → ℕ) × ((p q : ℕ) → p < R .nodes → q < R .nodes → 0 < R .weight q (d .entry p) → rank q < rank p)
     keptC (inl before) = (

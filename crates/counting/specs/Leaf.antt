@@ -25,5 +25,6 @@ module _ (R : Rules) (c : Share R) (lawful : Lawful R c) (no-air : (s p : ℕ) �
         climb n (above .0) (above .1) (omega (arith, height-falls R c lawful (above .0) p (above .1) lp (above .2))) (p, lp, above .2)
   ]
 
+  -- where an entry hangs, there is a leaf
   pub leaf : Some (R .nodes) (Hangs R c) → Some (R .nodes) Leaf
   leaf (p, lp, hangs) = climb (R .nodes) p lp (omega arith) hangs

@@ -10,6 +10,7 @@ use Rattle.counting.specs.Adding.{Adding, total}
 
 -- ---- a rule set
 
+-- what is counted, where and by what
 pub record Rules : Type 1 where
   pub nodes : ℕ
   pub places : ℕ
@@ -45,7 +46,10 @@ module _ (R : Rules) where
 
   -- return counts of all entries and messages
   abbrev pub returned : Share R → R .numbers .Number
-  returned c = R .numbers .plus (total (R .numbers) (R .nodes) (λ p. R .returns (c .entry p))) (total (R .numbers) (R .places) (λ s. R .carried (c .message s)))
+  returned c =
+      R .numbers .plus
+      (total (R .numbers) (R .nodes) (λ p. R .returns (c .entry p)))
+      (total (R .numbers) (R .places) (λ s. R .carried (c .message s)))
 
   -- references on their way home
   abbrev pub homeward : Share R → ℕ

@@ -9,6 +9,7 @@ use Rattle.counting.specs.Adding.{Adding}
 use Rattle.counting.specs.Rules.{Rules, Balanced}
 
 module _ (R : Rules) (less more : ℕ) (z : R .numbers .Number) where
+  -- how return counts are added
   abbrev N : Adding
   N = R .numbers
 

@@ -7,7 +7,7 @@ use Prim.Native.Nat.{ℕ, zero, suc, _+_, _≤_, _<_}
 use native.Mathlib.Numerals.{sub-one}
 use native.Mathlib.Omega.{arith}
 use lib.IntN.{_+ℤ_}
-use borrow.Author.Tests.{eq-eqb, lt-ltb}
+use borrow.Author.Tests.{lt-ltb}
 use Rattle.terms.specs.Limits.{NODES, OBJECTS, PLACES, STEPS}
 use Rattle.entry.specs.declared.Directory.{Directory}
 use Rattle.entry.specs.declared.Remote.{Remote}
@@ -22,7 +22,7 @@ use Rattle.table.specs.Depth.{further, onward, depthBy, depthNumber, depthRepor
 use Rattle.table.specs.DepthLaws.{depthBy-owner, depthBy-onward, depthBy-bound}
 use Rattle.table.specs.Shape.{fitsTable}
 use Rattle.table.specs.Table.{entryAt}
-use Rattle.laws.specs.Counts.{under, under-parent}
+use Rattle.laws.specs.Counts.{under-own, under-parent}
 use Rattle.laws.specs.LawA.{LawA}
 use Rattle.laws.specs.LawB.{LawB}
 use Rattle.laws.specs.LawC.{LawC}
@@ -77,7 +77,7 @@ module _ (t : Table) (o : ℕ) (shape : fitsTable t ≡ true) (lo : o < OBJECTS)
         × (isAbsent (entryAt t (r .parent) o) ≡ false)
     parent-below p lp r here =
         let fits = remote-fits p o r (rw here at (entry-fits t shape p o lp lo)) in
-        let weighs : 0 < weightUnder (r .parent) (entryAt t p o) = rw (here, under (r .parent) r, eq-eqb (r .parent) (r .parent) refl) (fits .weighs) in (
+        let weighs : 0 < weightUnder (r .parent) (entryAt t p o) = rw (here, under-own r) (fits .weighs) in (
           fits .parent,
           height-falls (rules o) (share t o) lawful p (r .parent) lp (fits .parent) weighs,
           counted-stands (entryAt t (r .parent) o) (omega (arith, weight-counted (rules o) (share t o) lawful p (r .parent) lp (fits .parent))),
@@ -100,6 +100,7 @@ module _ (t : Table) (o : ℕ) (shape : fitsTable t ≡ true) (lo : o < OBJECTS)
         (way .0 + 1, depthBy-onward t o p (suc n) (at .0) (λ e. absurd (omega arith)) (at .1) ∙ rw (sub-one, way .1)))
         (sort (entryAt t p o) stands)
 
+    -- wherever an entry stands, its depth is reported
     pub depth-within : (p : ℕ) → p < NODES → isAbsent (entryAt t p o) ≡ false → depthReport t p o ≤ STEPS
     depth-within p lp stands =
         let way = reached STEPS p lp (omega (arith, height-bound (rules o) (share t o) lawful p lp)) stands in
@@ -118,16 +119,19 @@ module _ (t : Table) (o : ℕ) (shape : fitsTable t ≡ true) (lo : o < OBJECTS)
     depth-falls : (p q : ℕ) → p < NODES → q < NODES → 0 < weightUnder q (entryAt t p o) → depthReport t q o < depthReport t p o
     depth-falls p q lp lq weighs =
         let at = weighs-remote q (entryAt t p o) weighs in
+        let onward = depthBy-onward t o p STEPS (at .0) (λ e. absurd (omega arith)) (at .1) in
         let here : depthReport t p o ≡ depthNumber (further (depthBy 6 t o q)) =
-        report-is p lp ∙ ap depthNumber (depthBy-onward t o p STEPS (at .0) (λ e. absurd (omega arith)) (at .1) ∙ ap (λ (x : ℕ). further (depthBy 6 t o x)) (at .2)) in
+        report-is p lp ∙ ap depthNumber (onward ∙ ap (λ (x : ℕ). further (depthBy 6 t o x)) (at .2)) in
         go (depthBy 6 t o q) refl here (reported p lp (ap isAbsent (at .1)))
       where
-        go : (x : Depth) → depthBy 6 t o q ≡ x → depthReport t p o ≡ depthNumber (further x) → depthReport t p o ≤ STEPS → depthReport t q o < depthReport t p o
+        go : (x : Depth) → depthBy 6 t o q ≡ x → depthReport t p o ≡ depthNumber (further x) → depthReport t p o ≤ STEPS
+            → depthReport t q o < depthReport t p o
         go (Steps k) way here within = let there : depthReport t q o ≡ k = report-is q lq ∙ ap depthNumber (more-steps 6 q k way) in omega arith
         go NotReached way here within = absurd (omega arith)
 
 -- ---- all objects
 
+-- law C of a table whose objects are lawful
 pub lawC : (t : Table) → fitsTable t ≡ true → ((o : ℕ) → o < OBJECTS → Lawful t o) → LawC t
 lawC t shape lawful p o lp lo = depth-within t o shape lo (lawful o lo) p lp
 

@@ -24,7 +24,7 @@ use Rattle.table.specs.declared.Table.{Table}
 use Rattle.table.specs.Shape.{fitsMessage, fitsTable}
 use Rattle.table.specs.Table.{entryAt, messageAt}
 use Rattle.laws.specs.Change.{isOf}
-use Rattle.laws.specs.Counts.{foreign, none-is, under}
+use Rattle.laws.specs.Counts.{foreign, none-is, under-own}
 use Rattle.laws.specs.LawA.{airUnder}
 use Rattle.laws.specs.LawB.{isHomeward, returnsIn}
 use Rattle.laws.specs.Lawful.{rules, share, Lawful}
@@ -38,7 +38,7 @@ module _ (o : ℕ) where
   hangs p Absent fits remote = absurd (false≢true remote)
   hangs p (AtOwner d) fits remote = absurd (false≢true remote)
   hangs p (Elsewhere e) fits remote =
-      let f = remote-fits p o e fits in (e .parent, f .parent, rw (under (e .parent) e, eq-eqb (e .parent) (e .parent) refl) (f .weighs))
+      let f = remote-fits p o e fits in (e .parent, f .parent, rw (under-own e) (f .weighs))
 
   -- an entry that isn't remote weighs nothing
   pub hangs-not : (e : Entry) (q : ℕ) → isRemote e ≡ false → weightUnder q e ≡ 0
@@ -87,6 +87,7 @@ module _ (o : ℕ) where
       let both = and-passes (eqb (d .rc) 0) (isNone (d .«msg_ctr» .0)) .0 clear in (eqb-true (d .rc) 0 (both .0), none-is (d .«msg_ctr» .0) (both .1))
   clear-counts (Elsewhere e) clear = absurd (false≢true clear)
 
+  -- and the other way, at the owner
   counts-clear : (e : Entry) → fitsEntry (owner o) o e ≡ true → rcOf e ≡ 0 → msgCtrOf e ≡ pos 0 → isClear e ≡ true
   counts-clear Absent fits count returns = refl
   counts-clear (AtOwner d) fits count returns = rw (count, returns)
@@ -95,15 +96,20 @@ module _ (o : ℕ) where
 -- ---- tables
 
 module _ (t : Table) (o : ℕ) (shape : fitsTable t ≡ true) (lo : o < OBJECTS) where
+  -- the owner is a node
   pub owner-number : owner o < NODES
   owner-number = omega arith
 
+  -- an object's share of a table in shape is in shape
   pub share-shaped : Shaped (rules o) (share t o)
   share-shaped = record {
     owner-number = owner-number;
     away = λ p lp ne.
         let fits = entry-fits t shape p o lp lo in
-        ⊎-elim (λ remote. inl (hangs o p (entryAt t p o) fits remote)) (λ none. inr (ap rcOf none, ap msgCtrOf none)) (away-entry o p (entryAt t p o) fits ne);
+        ⊎-elim
+        (λ remote. inl (hangs o p (entryAt t p o) fits remote))
+        (λ none. inr (ap rcOf none, ap msgCtrOf none))
+        (away-entry o p (entryAt t p o) fits ne);
     weighty = λ s ls. weighty o (messageAt t s) (message-fits t shape s ls);
   }
 
@@ -117,8 +123,11 @@ module _ (t : Table) (o : ℕ) (shape : fitsTable t ≡ true) (lo : o < OBJECTS)
           λ p lp ne.
               let fits = entry-fits t shape p o lp lo in
               ⊎-elim
-              (λ remote. let some = hangs o p (entryAt t p o) fits remote in absurd (omega (arith, some .2, nobody .no-entry p (some .0) lp (some .1))))
-              (ap isAbsent) (away-entry o p (entryAt t p o) fits ne),
+              (λ remote.
+              let some = hangs o p (entryAt t p o) fits remote in
+              absurd (omega (arith, some .2, nobody .no-entry p (some .0) lp (some .1))))
+              (ap isAbsent)
+              (away-entry o p (entryAt t p o) fits ne),
           λ s ls. unheard o (messageAt t s) (message-fits t shape s ls) (λ p lp. nobody .no-air s p ls lp) (nobody .no-home s ls),
         )
 

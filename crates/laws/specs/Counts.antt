@@ -1,5 +1,5 @@
 -- What single entries and messages add to the laws of an object (document 01, laws A and B). Assumes nothing.
-use mathlib.Core.Path.{_≡_, refl, sym, ap}
+use mathlib.Core.Path.{_≡_, refl, sym, ap, _∙_}
 use mathlib.Core.Logic.{_≢_}
 use mathlib.Core.Bool.{Bool, true, false, true≢false}
 use Prim.Native.Nat.{ℕ, _<_}
@@ -39,6 +39,10 @@ under-parent x e = go (eqb (e .parent) x) refl
     go true at some = sym (eqb-true (e .parent) x at)
     go false at some = absurd (omega arith)
 
+-- and it has all
+pub under-own : (e : Remote) → weightUnder (e .parent) (Elsewhere e) ≡ e .«ref_weight» .0
+under-own e = under (e .parent) e ∙ rw (eq-eqb (e .parent) (e .parent) refl)
+
 -- a return count that passes the test is nought
 pub none-is : (z : ℤ) → isNone z ≡ true → z ≡ pos 0
 none-is (pos n) e = ap pos (eqb-true n 0 e)
@@ -47,6 +51,7 @@ none-is (negsuc n) e = absurd (true≢false (sym e))
 -- ---- messages
 
 module _ (o : ℕ) where
+  -- a message of object o is of object o
   mine : eqb o o ≡ true
   mine = eq-eqb o o refl
 
@@ -60,6 +65,7 @@ module _ (o : ℕ) where
           go true = refl
           go false = refl
 
+      -- and not in law B
       pub away-home : isHomeward o (Reference from to o) ≡ false
       away-home = rw (mine, ne-eqb to (owner o) away)
 
@@ -72,6 +78,7 @@ module _ (o : ℕ) where
           go true = refl
           go false = refl
 
+      -- where it counts for one
       pub home-home : isHomeward o (Reference from to o) ≡ true
       home-home = rw (mine, eq-eqb to (owner o) home)
 
@@ -80,6 +87,7 @@ module _ (o : ℕ) where
       pub decrement-air : (x : ℕ) → airUnder x o (Decrement from to o m n) ≡ (if eqb to x then n .0 else 0)
       decrement-air x = rw mine
 
+      -- and carries its return count
       pub decrement-carried : returnsIn o (Decrement from to o m n) ≡ m .0
       decrement-carried = rw mine
 

@@ -60,5 +60,6 @@ counted-kept t u before after one-more change counted =
     (λ o lo. lawful-kept (change o lo) before lo (counted-lawful t before counted o lo))
     (λ o lo. subst (λ (n : ℕ). Within n u o) (sym one-more) (within-kept (change o lo) before lo (counted-within t before counted o lo)))
 
+-- nothing is counted in the fresh table
 pub counted-fresh : fitsTable freshTable ≡ true → Counted freshTable
 counted-fresh shape = all-counted freshTable shape lawful-fresh within-fresh

@@ -33,6 +33,7 @@ use Rattle.table.specs.Table.{entryAt, messageAt, isDecrementOf, isReferenceOf}
 use Rattle.laws.specs.Change.{isOf, Act, other, same, sends, receives, settles, unused, drops, clears, Change}
 use Rattle.laws.specs.ClearLaws.{hangs, clear-means-nobody, nobody-means-clear}
 use Rattle.laws.specs.Counts.{foreign}
+use Rattle.laws.specs.LawA.{airUnder}
 use Rattle.laws.specs.LawE.{Unused, due, Clear, InAir}
 use Rattle.laws.specs.Lawful.{rules, share, Lawful}
 use Rattle.laws.specs.LawfulKept.{patch}
@@ -82,12 +83,14 @@ present-either true a c v ea ec = ea
 present-either false a c v ea ec = ec
 
 -- settling makes no entry remote and none present
-settled-sort : (m : ReturnCount) (n : Weight) (e : Entry) → (isRemote (settled m n e .entry) ≡ isRemote e) × (isPresent (settled m n e .entry) ≡ isPresent e)
+settled-sort : (m : ReturnCount) (n : Weight) (e : Entry)
+    → (isRemote (settled m n e .entry) ≡ isRemote e) × (isPresent (settled m n e .entry) ≡ isPresent e)
 unfolding settled remoteSettled
 settled-sort m n Absent = (refl, refl)
 settled-sort m n (AtOwner d) = (refl, refl)
 settled-sort m n (Elsewhere e) = (refl, present-either (leb (n .0) (e .rc) and _) _ _ (e .presence) refl refl)
 
+-- nor does COLLECT
 unused-sort : (e : Entry) → (isRemote (setUnused e) ≡ isRemote e) × (isPresent (setUnused e) ≡ false)
 unused-sort Absent = (refl, refl)
 unused-sort (AtOwner d) = (refl, refl)
@@ -113,6 +116,7 @@ record Draining (o : ℕ) (e : Entry) (x : Message) (e′ : Entry) (y : Message)
   quiet : isReferenceOf o y ≡ false
   left : settle + (one (isRemote e′) + one (isDecrementOf o y)) ≡ one (isRemote e) + one (isDecrementOf o x)
 
+-- each such act lowers what is due by one if it settles, and else not
 draining : {o p : ℕ} {e : Entry} {x : Message} {e′ : Entry} {y : Message} (act : Act o p e x e′ y) → isSending act ≡ false → isReferenceOf o x ≡ false
     → Draining o e x e′ y (one (isSettling act))
 draining {o} (other {x = x} {y = y} ex ey) still none = record {
@@ -129,14 +133,18 @@ draining {o} (settles {e = e} {m = m} {n = n} ok) still none =
       quiet = refl;
       left = rw (sort .0, eq-eqb o o refl) (omega arith);
     }
-draining (unused {e = e}) still none = let sort = unused-sort e in record { idle = λ absent. sort .1; quiet = none; left = rw (sort .0) (omega arith) }
+draining (unused {e = e}) still none =
+    let sort = unused-sort e in record { idle = λ absent. sort .1; quiet = none; left = rw (sort .0) (omega arith) }
 draining {o} (drops may) still none = record { idle = λ absent. refl; quiet = refl; left = rw (eq-eqb o o refl) }
 draining (clears may) still none = record { idle = λ absent. refl; quiet = none; left = omega arith }
 
 -- ---- changes
 
 module _ {t u : Table} {o : ℕ} (change : Change t u o) (idle : Unused t o) (still : isSending (change .act) ≡ false) where
-  drained : Draining o (entryAt t (change .node) o) (messageAt t (change .place)) (entryAt u (change .node) o) (messageAt u (change .place)) (one (isSettling (change .act)))
+  -- the act of the change
+  drained : Draining o
+      (entryAt t (change .node) o) (messageAt t (change .place)) (entryAt u (change .node) o) (messageAt u (change .place))
+      (one (isSettling (change .act)))
   drained = draining (change .act) still (idle .quiet (change .place) (change .place-number))
 
   -- nobody uses the object after it
@@ -193,8 +201,11 @@ module _ (t : Table) (o : ℕ) (shape : fitsTable t ≡ true) (lo : o < OBJECTS)
   due-onward some = elim (ℕ-discrete (howMany PLACES (λ s. isDecrementOf o (messageAt t s))) 0) [
     | yes none ↦
         let remote = sum-some NODES (λ p. one (isRemote (entryAt t p o))) (omega arith) in
-        let hung = hangs o (remote .0) (entryAt t (remote .0) o) (entry-fits t shape (remote .0) o (remote .1) lo) (one-true (isRemote (entryAt t (remote .0) o)) (remote .2)) in
-        let found = leaf (rules o) (share t o) lawful (λ s p ls lp. foreign o (messageAt t s) (no-message none s ls) .air p) (remote .0, remote .1, hung) in
+        let p = remote .0 in
+        let hung = hangs o p (entryAt t p o) (entry-fits t shape p o (remote .1) lo) (one-true (isRemote (entryAt t p o)) (remote .2)) in
+        let unheard : (s x : ℕ) → s < PLACES → x < NODES → airUnder x o (messageAt t s) ≡ 0 =
+        λ s x ls lx. foreign o (messageAt t s) (no-message none s ls) .air x in
+        let found = leaf (rules o) (share t o) lawful unheard (p, remote .1, hung) in
         inr (found .0, found .1, ready (entryAt t (found .0) o) (found .2 .0) (found .2 .1) (idle .idle (found .0) (found .1)))
     | no some ↦
         let held = sum-some PLACES (λ s. one (isDecrementOf o (messageAt t s))) (omega arith) in

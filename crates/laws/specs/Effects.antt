@@ -20,6 +20,7 @@ use Rattle.entry.specs.declared.Remote.{Remote}
 use Rattle.entry.specs.declared.Entry.{Entry}
 use Rattle.entry.specs.declared.DirectoryAct.{DirectoryAct}
 use Rattle.entry.specs.declared.RemoteAct.{RemoteAct}
+use Rattle.entry.specs.declared.EntryAct.{EntryAct}
 use Rattle.entry.specs.declared.Entry.the-variants.{Absent, AtOwner, Elsewhere}
 use Rattle.entry.specs.Acts.{stays, usedWith, firstSent, firstReceived, directorySent, directoryCameHome, directorySettled, remoteSent, remoteSentHome, remoteReceivedAgain, remoteSettled}
 use Rattle.entry.specs.AtNode.{done, torn, refuses, ofRemote, holderSent, sent, received, settled, setUnused, mayGo}
@@ -31,107 +32,83 @@ use Rattle.table.specs.declared.Message.the-variants.{Empty, Reference, Decreme
 use Rattle.table.specs.Shape.{fitsMessage}
 use Rattle.step.specs.Drop.{lastWords}
 use Rattle.step.specs.Receive.{reply}
-use Rattle.laws.specs.Change.{isOf, Act, other, same, sends, receives, settles, unused, drops, clears}
-use Rattle.laws.specs.Counts.{under, under-parent, none-is, away-air, away-home, decrement-air, decrement-carried, foreign}
-use Rattle.laws.specs.Effect.{Effect, Turning, turning-effect}
+use Rattle.laws.specs.Change.{Act, other, same, sends, receives, settles, unused, drops, clears}
+use Rattle.laws.specs.Counts.{under, under-parent, none-is, away-air, away-home, decrement-air, decrement-carried}
+use Rattle.laws.specs.Effect.{Effect, turned-effect}
 use Rattle.laws.specs.LawA.{airUnder}
 use Rattle.laws.specs.LawB.{returnsIn}
 use Rattle.laws.specs.Lawful.{rules}
-use Rattle.laws.specs.Passings.{passing-foreign, passing-still, passing-sent, passing-home, passing-came, passing-answered, passing-settled}
-use Rattle.laws.specs.Spot.{natural-returns, directory-at, RemoteFits, remote-fits, reference-fits, decrement-fits}
+use Rattle.laws.specs.Passings.{passes-foreign, passes-still, passes-sent, passes-home, passes-came, passes-answered, passes-settled}
+use Rattle.laws.specs.Spot.{directory-at, RemoteFits, remote-fits, reference-fits, decrement-fits}
 
 -- an act that is not refused passed its test
-passes : {A : Type 0} (refusal : A → ℕ) (b : Bool) (a c : A) → refusal c ≡ TORN → not (eqb (refusal (if b then a else c)) ACCEPTED) ≡ false → b ≡ true
-passes refusal true a c e ok = refl
-passes refusal false a c e ok = absurd (true≢false (ap (λ (n : ℕ). not (eqb n ACCEPTED)) (sym e) ∙ ok))
+test-passed : {A : Type 0} (refusal : A → ℕ) (b : Bool) (a c : A) → refusal c ≡ TORN
+    → not (eqb (refusal (if b then a else c)) ACCEPTED) ≡ false → b ≡ true
+test-passed refusal true a c e ok = refl
+test-passed refusal false a c e ok = absurd (true≢false (ap (λ (n : ℕ). not (eqb n ACCEPTED)) (sym e) ∙ ok))
 
 module _ (o p : ℕ) where
   -- ---- SEND
 
   module _ (q : ℕ) where
     -- RC + 1 for a reference to another node than the owner
-    counted : {e e′ : Entry} → q ≢ owner o → Turn (rules o) 0 1 (pos 0) e e′ → Turning o p e Empty e′ (Reference p q o)
-    counted away turn = record {
-      less = 0;
-      more = 1;
-      by = pos 0;
-      turn = turn;
-      passing = passing-sent o p q away;
-      few = omega arith;
-      risen = omega arith;
-      fallen = omega arith;
-    }
+    counted : {e e′ : Entry} → q ≢ owner o → Turn (rules o) 0 1 (pos 0) e e′ → Effect o p e Empty e′ (Reference p q o)
+    counted away turn = turned-effect o p 0 1 (pos 0) turn (passes-sent o p q away)
 
     -- MsgCtr + 1 for one that goes home
-    returned : {e e′ : Entry} → q ≡ owner o → Turn (rules o) 0 0 (pos 1) e e′ → Turning o p e Empty e′ (Reference p q o)
-    returned home turn = record {
-      less = 0;
-      more = 0;
-      by = pos 1;
-      turn = turn;
-      passing = passing-home o p q home;
-      few = omega arith;
-      risen = omega arith;
-      fallen = omega arith;
-    }
+    returned : {e e′ : Entry} → q ≡ owner o → Turn (rules o) 0 0 (pos 1) e e′ → Effect o p e Empty e′ (Reference p q o)
+    returned home turn = turned-effect o p 0 0 (pos 1) turn (passes-home o p q home)
 
-    holder-turning : (e : Remote) (home : Bool) → eqb q (owner o) ≡ home → refuses (holderSent home e) ≡ false
-        → Turning o p (Elsewhere e) Empty (holderSent home e .entry) (Reference p q o)
-    unfolding holderSent remoteSent remoteSentHome
-    holder-turning e home to ok = go (e .presence) home to ok
-      where
-        go : (present home : Bool) → eqb q (owner o) ≡ home
-            → refuses (if present then (if home then ofRemote (remoteSentHome e) else ofRemote (remoteSent e)) else torn (Elsewhere e)) ≡ false
-            → Turning o p (Elsewhere e) Empty
-            ((if present then (if home then ofRemote (remoteSentHome e) else ofRemote (remoteSent e)) else torn (Elsewhere e)) .entry) (Reference p q o)
-        go false home to ok = absurd (true≢false ok)
-        go true true to ok =
-            rw (passes (λ (a : RemoteAct). a .refusal) (stays fitsReturns (e .«msg_ctr») (more (e .«msg_ctr»))) _ _ refl ok)
-            (returned (eqb-true q (owner o) to) (record { counts = refl; weights = λ x. refl; returns = refl }))
-        go true false to ok =
-            rw (passes (λ (a : RemoteAct). a .refusal) (ltb (e .rc) MOST) _ _ refl ok)
-            (counted (eqb-false q (owner o) to) (record { counts = omega arith; weights = λ x. refl; returns = sym (+ℤ-idr (e .«msg_ctr» .0)) }))
+    -- a holder sends, with Presence true, home or on to another node
+    abbrev holding : Remote → Bool → Bool → EntryAct
+    holding e present home = if present then (if home then ofRemote (remoteSentHome e) else ofRemote (remoteSent e)) else torn (Elsewhere e)
 
-    sent-turning : p ≢ q → (e : Entry) → fitsEntry p o e ≡ true → refuses (sent p q o e) ≡ false → Turning o p e Empty (sent p q o e .entry) (Reference p q o)
-    unfolding sent directorySent
-    sent-turning apart Absent fits ok = go (eqb p (owner o)) refl ok
+    holder-effect : (e : Remote) (present home : Bool) → eqb q (owner o) ≡ home → refuses (holding e present home) ≡ false
+        → Effect o p (Elsewhere e) Empty (holding e present home .entry) (Reference p q o)
+    unfolding remoteSent remoteSentHome
+    holder-effect e false home to ok = absurd (true≢false ok)
+    holder-effect e true true to ok =
+        rw (test-passed (λ (a : RemoteAct). a .refusal) (stays fitsReturns (e .«msg_ctr») (more (e .«msg_ctr»))) _ _ refl ok)
+        (returned (eqb-true q (owner o) to) (record { counts = refl; weights = λ x. refl; returns = refl }))
+    holder-effect e true false to ok =
+        rw (test-passed (λ (a : RemoteAct). a .refusal) (ltb (e .rc) MOST) _ _ refl ok)
+        (counted (eqb-false q (owner o) to) (record { counts = omega arith; weights = λ x. refl; returns = sym (+ℤ-idr (e .«msg_ctr» .0)) }))
+
+    -- whoever sends
+    sent-effect : p ≢ q → (e : Entry) → fitsEntry p o e ≡ true → refuses (sent p q o e) ≡ false
+        → Effect o p e Empty (sent p q o e .entry) (Reference p q o)
+    unfolding sent holderSent directorySent
+    sent-effect apart Absent fits ok = go (eqb p (owner o)) refl ok
       where
         go : (b : Bool) → eqb p (owner o) ≡ b → refuses (if b then done (AtOwner firstSent) else torn Absent) ≡ false
-            → Turning o p Absent Empty ((if b then done (AtOwner firstSent) else torn Absent) .entry) (Reference p q o)
+            → Effect o p Absent Empty ((if b then done (AtOwner firstSent) else torn Absent) .entry) (Reference p q o)
         go true at ok = counted (λ e. apart (eqb-true p (owner o) at ∙ sym e)) (record { counts = refl; weights = λ x. refl; returns = refl })
         go false at ok = absurd (true≢false ok)
-    sent-turning apart (AtOwner d) fits ok =
-        rw (passes (λ (a : DirectoryAct). a .refusal) (ltb (d .rc) MOST) _ _ refl ok)
+    sent-effect apart (AtOwner d) fits ok =
+        rw (test-passed (λ (a : DirectoryAct). a .refusal) (ltb (d .rc) MOST) _ _ refl ok)
         (counted (λ e. apart (directory-at p o d fits ∙ sym e))
         (record { counts = omega arith; weights = λ x. refl; returns = sym (+ℤ-idr (d .«msg_ctr» .0)) }))
-    sent-turning apart (Elsewhere e) fits ok = holder-turning e (eqb q (owner o)) refl ok
+    sent-effect apart (Elsewhere e) fits ok = holder-effect e (e .presence) (eqb q (owner o)) refl ok
 
   -- ---- SETTLE
 
   module _ (q : ℕ) (m : ReturnCount) (n : Weight) where
     -- RC - n and MsgCtr + m for a decrement
-    taken : {e e′ : Entry} → fitsReturns m ≡ true → Turn (rules o) (n .0) 0 (m .0) e e′ → Turning o p e (Decrement q p o m n) e′ Empty
-    taken natural turn = record {
-      less = n .0;
-      more = 0;
-      by = m .0;
-      turn = turn;
-      passing = passing-settled o p q m n;
-      few = omega arith;
-      risen = rw (decrement-carried o q p m n) (omega arith);
-      fallen = rw (natural-returns m natural) (omega arith);
-    }
+    taken : {e e′ : Entry} → fitsReturns m ≡ true → Turn (rules o) (n .0) 0 (m .0) e e′ → Effect o p e (Decrement q p o m n) e′ Empty
+    taken natural turn = turned-effect o p (n .0) 0 (m .0) turn (passes-settled o p q m n natural)
 
-    settled-turning : (e : Entry) → fitsReturns m ≡ true → refuses (settled m n e) ≡ false → Turning o p e (Decrement q p o m n) (settled m n e .entry) Empty
+    -- whoever settles
+    settled-effect : (e : Entry) → fitsReturns m ≡ true → refuses (settled m n e) ≡ false
+        → Effect o p e (Decrement q p o m n) (settled m n e .entry) Empty
     unfolding settled directorySettled remoteSettled
-    settled-turning Absent natural ok = absurd (true≢false ok)
-    settled-turning (AtOwner d) natural ok =
-        let test = passes (λ (a : DirectoryAct). a .refusal)
+    settled-effect Absent natural ok = absurd (true≢false ok)
+    settled-effect (AtOwner d) natural ok =
+        let test = test-passed (λ (a : DirectoryAct). a .refusal)
         (leb (n .0) (d .rc) and fitsReturns m and stays fitsDirectoryReturns (d .«msg_ctr») (both (d .«msg_ctr») m)) _ _ refl ok in
         let enough = leb-true (n .0) (d .rc) (and-passes (leb (n .0) (d .rc)) _ .0 test .0) in
         rw test (taken natural (record { counts = omega arith; weights = λ x. refl; returns = refl }))
-    settled-turning (Elsewhere e) natural ok =
-        let test = passes (λ (a : RemoteAct). a .refusal)
+    settled-effect (Elsewhere e) natural ok =
+        let test = test-passed (λ (a : RemoteAct). a .refusal)
         (leb (n .0) (e .rc) and fitsReturns m and stays fitsReturns (e .«msg_ctr») (both (e .«msg_ctr») m)) _ _ refl ok in
         let enough = leb-true (n .0) (e .rc) (and-passes (leb (n .0) (e .rc)) _ .0 test .0) in
         rw test (taken natural (record { counts = omega arith; weights = λ x. refl; returns = refl }))
@@ -139,45 +116,26 @@ module _ (o p : ℕ) where
   -- ---- acts that leave the message as it is
 
   -- nothing counted changes
-  idle : {e e′ : Entry} {x : Message} → Turn (rules o) 0 0 (pos 0) e e′ → Turning o p e x e′ x
-  idle {x = x} turn = record {
-    less = 0;
-    more = 0;
-    by = pos 0;
-    turn = turn;
-    passing = passing-still o p x;
-    few = omega arith;
-    risen = omega arith;
-    fallen = omega arith;
-  }
+  idle : {e e′ : Entry} {x : Message} → Turn (rules o) 0 0 (pos 0) e e′ → Effect o p e x e′ x
+  idle {x = x} turn = turned-effect o p 0 0 (pos 0) turn (passes-still o p x)
 
+  -- Presence is not counted
   unused-turn : (e : Entry) → Turn (rules o) 0 0 (pos 0) e (setUnused e)
   unused-turn Absent = record { counts = refl; weights = λ x. refl; returns = refl }
   unused-turn (AtOwner d) = record { counts = refl; weights = λ x. refl; returns = sym (+ℤ-idr (d .«msg_ctr» .0)) }
   unused-turn (Elsewhere e) = record { counts = refl; weights = λ x. refl; returns = sym (+ℤ-idr (e .«msg_ctr» .0)) }
 
+  -- the entry stays
   same-turn : (e : Entry) → Turn (rules o) 0 0 (pos 0) e e
   same-turn e = record { counts = refl; weights = λ x. refl; returns = sym (+ℤ-idr (msgCtrOf e)) }
 
+  -- a directory that may go counts for nothing
   cleared-turn : (d : Directory) → mayGo (AtOwner d) ≡ true → Turn (rules o) 0 0 (pos 0) (AtOwner d) Absent
   unfolding mayGo
   cleared-turn d may =
       let clear = and-passes (eqb (d .rc) 0) (isNone (d .«msg_ctr» .0)) .0 may in
       let zero-count = eqb-true (d .rc) 0 (clear .0) in
       record { counts = omega arith; weights = λ x. refl; returns = rw (none-is (d .«msg_ctr» .0) (clear .1)) }
-
-  -- neither message is of this object
-  unconcerned : {e : Entry} {x y : Message} → isOf o x ≡ false → isOf o y ≡ false → Turning o p e x e y
-  unconcerned {e} {x} {y} ex ey = record {
-    less = 0;
-    more = 0;
-    by = pos 0;
-    turn = same-turn e;
-    passing = passing-foreign o p x y ex ey;
-    few = omega arith;
-    risen = rw (foreign o y ey .carried) (omega arith);
-    fallen = omega arith;
-  }
 
   -- ---- acts that move weight
 
@@ -250,35 +208,20 @@ module _ (o p : ℕ) where
   -- ---- RECEIVE
 
   -- MsgCtr - 1 for a reference that came home
-  home-turning : (q : ℕ) (d : Directory) → p ≡ owner o → refuses (received q p o (AtOwner d)) ≡ false
-      → Turning o p (AtOwner d) (Reference q p o) (received q p o (AtOwner d) .entry) Empty
+  came-home : (q : ℕ) (d : Directory) → p ≡ owner o → refuses (received q p o (AtOwner d)) ≡ false
+      → Effect o p (AtOwner d) (Reference q p o) (received q p o (AtOwner d) .entry) Empty
   unfolding received directoryCameHome
-  home-turning q d home ok =
-      rw (passes (λ (a : DirectoryAct). a .refusal) (stays fitsDirectoryReturns (d .«msg_ctr») (fewer (d .«msg_ctr»))) _ _ refl ok)
-      (record {
-        less = 0;
-        more = 0;
-        by = negsuc 0;
-        turn = record { counts = refl; weights = λ x. refl; returns = refl };
-        passing = passing-came o p q home;
-        few = omega arith;
-        risen = omega arith;
-        fallen = omega arith;
-      })
+  came-home q d home ok =
+      rw (test-passed (λ (a : DirectoryAct). a .refusal) (stays fitsDirectoryReturns (d .«msg_ctr») (fewer (d .«msg_ctr»))) _ _ refl ok)
+      (turned-effect o p 0 0 (negsuc 0) (record { counts = refl; weights = λ x. refl; returns = refl }) (passes-came o p q home))
 
-  -- Presence alone for one that another decrement answers
-  answered-turning : (q : ℕ) (e : Remote) → p ≢ owner o
-      → Turning o p (Elsewhere e) (Reference q p o) (Elsewhere (usedWith e (e .«ref_weight»))) (Decrement p q o none (weight 1))
-  answered-turning q e away = record {
-    less = 0;
-    more = 0;
-    by = pos 0;
-    turn = record { counts = refl; weights = λ x. refl; returns = sym (+ℤ-idr (e .«msg_ctr» .0)) };
-    passing = passing-answered o p q away;
-    few = omega arith;
-    risen = rw (decrement-carried o p q none (weight 1)) (omega arith);
-    fallen = omega arith;
-  }
+  -- Presence alone for one that a decrement answers
+  answered : (q : ℕ) (e : Remote) → p ≢ owner o
+      → Effect o p (Elsewhere e) (Reference q p o) (Elsewhere (usedWith e (e .«ref_weight»))) (Decrement p q o none (weight 1))
+  answered q e away =
+      turned-effect o p 0 0 (pos 0)
+      (record { counts = refl; weights = λ x. refl; returns = sym (+ℤ-idr (e .«msg_ctr» .0)) })
+      (passes-answered o p q away)
 
   -- the act on a remote entry when a reference arrives, by whether it comes from the Parent
   abbrev again : Remote → Bool → RemoteAct
@@ -287,6 +230,7 @@ module _ (o p : ℕ) where
       else if ltb (e .«ref_weight» .0) MOST then record { refusal = ACCEPTED; entry = usedWith e (weight (e .«ref_weight» .0 + 1)) }
       else record { refusal = TORN; entry = e }
 
+  -- whoever receives
   received-effect : (q : ℕ) → q ≢ p → (e : Entry) → fitsEntry p o e ≡ true → refuses (received q p o e) ≡ false
       → Effect o p e (Reference q p o) (received q p o e .entry) (reply q p o e)
   unfolding received remoteReceivedAgain
@@ -296,25 +240,26 @@ module _ (o p : ℕ) where
           → Effect o p Absent (Reference q p o) ((if b then torn Absent else done (Elsewhere (firstReceived q))) .entry) Empty
       go true at ok = absurd (true≢false ok)
       go false at ok = made q (eqb-false p (owner o) at) apart
-  received-effect q apart (AtOwner d) fits ok = turning-effect _ _ _ _ _ _ (home-turning q d (directory-at p o d fits) ok)
+  received-effect q apart (AtOwner d) fits ok = came-home q d (directory-at p o d fits) ok
   received-effect q apart (Elsewhere e) fits ok = go (eqb (e .parent) q) refl ok
     where
       go : (b : Bool) → eqb (e .parent) q ≡ b → refuses (ofRemote (again e b)) ≡ false
           → Effect o p (Elsewhere e) (Reference q p o) (Elsewhere (again e b .entry)) (if b then Empty else Decrement p q o none (weight 1))
       go true from ok =
-          rw (passes (λ (a : RemoteAct). a .refusal) (ltb (e .«ref_weight» .0) MOST) _ _ refl ok)
+          rw (test-passed (λ (a : RemoteAct). a .refusal) (ltb (e .«ref_weight» .0) MOST) _ _ refl ok)
           (merged q e (remote-fits p o e fits) (eqb-true (e .parent) q from))
-      go false from ok = turning-effect _ _ _ _ _ _ (answered-turning q e (remote-fits p o e fits .away))
+      go false from ok = answered q e (remote-fits p o e fits .away)
 
   -- ---- every act
 
-  pub act-effect : {e : Entry} {x : Message} {e′ : Entry} {y : Message} → Act o p e x e′ y → fitsEntry p o e ≡ true → fitsMessage x ≡ true → Effect o p e x e′ y
-  act-effect (other ex ey) fits way = turning-effect _ _ _ _ _ _ (unconcerned ex ey)
-  act-effect (same {e = e}) fits way = turning-effect _ _ _ _ _ _ (idle (same-turn e))
-  act-effect (sends {e = e} {q = q} apart number ok) fits way = turning-effect _ _ _ _ _ _ (sent-turning q apart e fits ok)
+  -- for an entry and a message in shape
+  pub act-effect : {e : Entry} {x : Message} {e′ : Entry} {y : Message} → Act o p e x e′ y
+      → fitsEntry p o e ≡ true → fitsMessage x ≡ true → Effect o p e x e′ y
+  act-effect (other {e = e} {x = x} {y = y} ex ey) fits way = turned-effect o p 0 0 (pos 0) (same-turn e) (passes-foreign o p x y ex ey)
+  act-effect (same {e = e}) fits way = idle (same-turn e)
+  act-effect (sends {e = e} {q = q} apart number ok) fits way = sent-effect q apart e fits ok
   act-effect (receives {e = e} {q = q} ok) fits way = received-effect q (reference-fits q p o way .other) e fits ok
-  act-effect (settles {e = e} {q = q} {m = m} {n = n} ok) fits way =
-      turning-effect _ _ _ _ _ _ (settled-turning q m n e (decrement-fits q p o m n way .returns) ok)
-  act-effect (unused {e = e}) fits way = turning-effect _ _ _ _ _ _ (idle (unused-turn e))
+  act-effect (settles {e = e} {q = q} {m = m} {n = n} ok) fits way = settled-effect q m n e (decrement-fits q p o m n way .returns) ok
+  act-effect (unused {e = e}) fits way = idle (unused-turn e)
   act-effect (drops {e = e} may) fits way = dropped e may
-  act-effect (clears {d = d} may) fits way = turning-effect _ _ _ _ _ _ (idle (cleared-turn d may))
+  act-effect (clears {d = d} may) fits way = idle (cleared-turn d may)

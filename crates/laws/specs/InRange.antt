@@ -27,7 +27,7 @@ use Rattle.table.specs.Shape.{fitsTable}
 use Rattle.table.specs.Table.{entryAt, messageAt}
 use Rattle.laws.specs.Change.{isOf}
 use Rattle.laws.specs.ClearLaws.{clear-means-nobody}
-use Rattle.laws.specs.Counts.{under, decrement-air, decrement-carried}
+use Rattle.laws.specs.Counts.{under-own, decrement-air, decrement-carried}
 use Rattle.laws.specs.Effect.{sum-parts}
 use Rattle.laws.specs.LawA.{airUnder}
 use Rattle.laws.specs.LawB.{returnsIn}
@@ -55,6 +55,7 @@ not-below c fits = ap below (natural-returns c fits)
 -- ---- single entries
 
 module _ (p o : ℕ) (n : ℕ) (low : n < MOST) where
+  -- a decrement of no more than RC, and return counts that are within the limit together
   settled-in-range : (m : ReturnCount) (w : Weight) (e : Entry) → fitsEntry p o e ≡ true → fitsReturns m ≡ true → 0 < w .0 → w .0 ≤ rcOf e
       → above (msgCtrOf e) + above (m .0) ≤ n → below (msgCtrOf e) ≤ n → refuses (settled m w e) ≡ false
   unfolding settled directorySettled remoteSettled
@@ -70,6 +71,7 @@ module _ (p o : ℕ) (n : ℕ) (low : n < MOST) where
       let after = remote-range (e .«msg_ctr» .0 +ℤ m .0) (omega (arith, not-below m natural, not-below (e .«msg_ctr») (f .returns))) (omega arith) in
       rw (le-leb (w .0) (e .rc) enough, natural, f .returns, after)
 
+  -- a reference, home only where the directory isn't clear
   received-in-range : (q : ℕ) (e : Entry) → (p ≡ owner o → isClear e ≡ false) → above (msgCtrOf e) ≤ n → below (msgCtrOf e) ≤ n
       → ((r : Remote) → e ≡ Elsewhere r → r .«ref_weight» .0 < MOST) → refuses (received q p o e) ≡ false
   unfolding received directoryCameHome remoteReceivedAgain
@@ -85,6 +87,7 @@ module _ (p o : ℕ) (n : ℕ) (low : n < MOST) where
     | no another ↦ rw (ne-eqb (e .parent) q another)
   ]
 
+  -- a reference of the owner, or of a node that has the object in use
   sent-in-range : (q : ℕ) (e : Entry) → fitsEntry p o e ≡ true → (p ≡ owner o) ⊎ (isPresent e ≡ true) → rcOf e ≤ n → above (msgCtrOf e) ≤ n
       → refuses (sent p q o e) ≡ false
   unfolding sent directorySent holderSent remoteSent remoteSentHome
@@ -103,7 +106,8 @@ module _ (p o : ℕ) (n : ℕ) (low : n < MOST) where
 
 -- ---- tables
 
-module _ (t : Table) (o : ℕ) (shape : fitsTable t ≡ true) (lo : o < OBJECTS) (lawful : Lawful t o) (n : ℕ) (low : n < MOST) (within : Within n t o) where
+module _ (t : Table) (o : ℕ) (shape : fitsTable t ≡ true) (lo : o < OBJECTS) (lawful : Lawful t o)
+    (n : ℕ) (low : n < MOST) (within : Within n t o) where
   -- a return count is part of all
   returns-part : (p s : ℕ) → p < NODES → s < PLACES → above (msgCtrOf (entryAt t p o)) + above (returnsIn o (messageAt t s)) ≤ n
   returns-part p s lp ls = omega (
@@ -139,7 +143,7 @@ module _ (t : Table) (o : ℕ) (shape : fitsTable t ≡ true) (lo : o < OBJECTS)
   weight-within : (p : ℕ) → p < NODES → (r : Remote) → entryAt t p o ≡ Elsewhere r → r .«ref_weight» .0 ≤ n
   weight-within p lp r here =
       let parent = remote-fits p o r (rw here at (entry-fits t shape p o lp lo)) .parent in
-      let weighs : weightUnder (r .parent) (entryAt t p o) ≡ r .«ref_weight» .0 = rw (here, under (r .parent) r, eq-eqb (r .parent) (r .parent) refl) in
+      let weighs : weightUnder (r .parent) (entryAt t p o) ≡ r .«ref_weight» .0 = rw (here, under-own r) in
       omega (arith, weight-counted (rules o) (share t o) lawful p (r .parent) lp parent, within .counts (r .parent) parent)
 
   -- RECEIVE

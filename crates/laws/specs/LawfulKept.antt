@@ -59,14 +59,17 @@ module _ {t u : Table} {o : ℕ} (change : Change t u o) where
 
 -- ---- the fresh table
 
+-- no entry
 pub fresh-entry : (p o : ℕ) → p < NODES → o < OBJECTS → entryAt freshTable p o ≡ Absent
 fresh-entry p o lp lo =
     let slot : Slot = record { held = Absent } in
     rw (getD-replicate {A = Cell} OBJECTS o (record { at = replicate NODES slot }) (record { at = [] }) lo, getD-replicate NODES p slot slot lp)
 
+-- and no message
 pub fresh-message : (s : ℕ) → s < PLACES → messageAt freshTable s ≡ Empty
 fresh-message s ls = ap (λ (x : Place). x .held) (getD-replicate PLACES s (record { held = Empty }) (record { held = Empty }) ls)
 
+-- so every count is nought
 pub lawful-fresh : (o : ℕ) → o < OBJECTS → Lawful freshTable o
 lawful-fresh o lo =
     let none : (p q : ℕ) → p < NODES → weightUnder q (entryAt freshTable p o) ≡ 0 = λ p q lp. ap (weightUnder q) (fresh-entry p o lp lo) in
@@ -80,7 +83,8 @@ lawful-fresh o lo =
           ap₂ _+ℤ_
           (total-nothing whole NODES (λ p. msgCtrOf (entryAt freshTable p o)) (λ p lp. ap msgCtrOf (fresh-entry p o lp lo)))
           (total-nothing whole PLACES (λ s. returnsIn o (messageAt freshTable s)) (λ s ls. ap (returnsIn o) (fresh-message s ls)))
-          ∙ sym (ap pos (sum-zero PLACES (λ s. one (isHomeward o (messageAt freshTable s))) (λ s ls. ap (λ x. one (isHomeward o x)) (fresh-message s ls))));
+          ∙ sym (ap pos
+          (sum-zero PLACES (λ s. one (isHomeward o (messageAt freshTable s))) (λ s ls. ap (λ x. one (isHomeward o x)) (fresh-message s ls))));
       rank = λ p. 0;
       falls = λ p q lp lq hangs. absurd (omega (arith, none p q lp));
     }
@@ -94,8 +98,10 @@ total-is k zero f = refl
 total-is k (suc n) f = ap (λ (z : ℤ). f k +ℤ z) (total-is (suc k) n f)
 
 module _ (t : Table) (lawful : (o : ℕ) → o < OBJECTS → Lawful t o) where
+  -- law A is that of each object
   pub lawA : LawA t
   lawA p o lp lo = lawful o lo .lawA p lp
 
+  -- and so is law B
   pub lawB : LawB t
   lawB o lo = ap₂ _+ℤ_ (total-is 0 NODES _) (total-is 0 PLACES _) ∙ lawful o lo .lawB

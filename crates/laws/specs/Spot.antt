@@ -65,6 +65,7 @@ module _ (p o : ℕ) (d : Directory) (fits : fitsEntry p o (AtOwner d) ≡ true)
 
 -- ---- a remote entry
 
+-- it stands away from the owner, under another node, and weighs something
 pub record RemoteFits (p o : ℕ) (e : Remote) : Type 0 where
   pub away : p ≢ owner o
   pub other : e .parent ≢ p
@@ -72,6 +73,7 @@ pub record RemoteFits (p o : ℕ) (e : Remote) : Type 0 where
   pub returns : fitsReturns (e .«msg_ctr») ≡ true
   pub weighs : 0 < e .«ref_weight» .0
 
+-- taken from the shape
 pub remote-fits : (p o : ℕ) (e : Remote) → fitsEntry p o (Elsewhere e) ≡ true → RemoteFits p o e
 unfolding fitsEntry fitsRemote
 remote-fits p o e fits =
@@ -91,11 +93,13 @@ remote-fits p o e fits =
 
 -- ---- a message
 
+-- from a node to another
 pub record WayFits (from to o : ℕ) : Type 0 where
   pub sender : from < NODES
   pub receiver : to < NODES
   pub other : from ≢ to
 
+-- taken from the shape
 way-fits : (from to o : ℕ) → fitsWay from to o ≡ true → WayFits from to o
 way-fits from to o fits =
     let a = and-passes (ltb from NODES) _ .0 fits in
@@ -107,15 +111,18 @@ way-fits from to o fits =
       other = eqb-false from to (not-true (eqb from to) (c .0));
     }
 
+-- a reference goes such a way
 pub reference-fits : (from to o : ℕ) → fitsMessage (Reference from to o) ≡ true → WayFits from to o
 unfolding fitsMessage
 reference-fits from to o fits = way-fits from to o fits
 
+-- so does a decrement, which carries a return count and a weight
 pub record DecrementFits (from to o : ℕ) (m : ReturnCount) (n : Weight) : Type 0 where
   pub way : WayFits from to o
   pub returns : fitsReturns m ≡ true
   pub weighs : 0 < n .0
 
+-- taken from the shape
 pub decrement-fits : (from to o : ℕ) (m : ReturnCount) (n : Weight) → fitsMessage (Decrement from to o m n) ≡ true → DecrementFits from to o m n
 unfolding fitsMessage
 decrement-fits from to o m n fits =

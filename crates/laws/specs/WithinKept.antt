@@ -29,6 +29,7 @@ module _ {t u : Table} {o : ℕ} (change : Change t u o) (shape : fitsTable t �
     | no ne ↦ rw (change .entries p lp ne) (omega (arith, within p lp))
   ]
 
+  -- the limits rise by one
   pub within-kept : {n : ℕ} → Within n t o → Within (n + 1) u o
   within-kept within =
       let e = effect change shape lo in record {
@@ -42,6 +43,7 @@ module _ {t u : Table} {o : ℕ} (change : Change t u o) (shape : fitsTable t �
         owed = grown (λ x. below (msgCtrOf x)) (e .owed) (within .owed);
       }
 
+-- nothing is counted in the fresh table
 pub within-fresh : (o : ℕ) → o < OBJECTS → Within 0 freshTable o
 within-fresh o lo = record {
   counts = λ p lp. rw (fresh-entry p o lp lo) (omega arith);
