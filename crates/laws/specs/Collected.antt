@@ -7,7 +7,6 @@ use Prim.Native.Nat.{ℕ, _<_}
 use native.Mathlib.Omega.{arith}
 use borrow.Author.Tests.{eqb-false}
 use lib.ListN.{length}
-use lib.Seq.{getD-set-same, getD-set-other}
 use Rattle.terms.specs.Choose.{if_then_else_}
 use Rattle.terms.specs.Counted.{holds}
 use Rattle.terms.specs.CountedLaws.{getD-list, length-list}
@@ -20,12 +19,12 @@ use Rattle.heap.specs.declared.Object.{Object}
 use Rattle.heap.specs.Heap.{idle, isLive, objectAt, rootAt}
 use Rattle.heap.specs.Walk.{ownedBy}
 use Rattle.table.specs.declared.Cell.{Cell}
-use Rattle.table.specs.declared.Slot.{Slot}
 use Rattle.table.specs.declared.Table.{Table}
 use Rattle.table.specs.Formed.{Formed}
 use Rattle.table.specs.Table.{cellAt, cellWith, entryAt, entryIn}
 use Rattle.step.specs.Collect.{cellCollected, heapCollected, heldAt, isReclaimed, kept, withCollected}
 use Rattle.laws.specs.Holding.{live-number}
+use Rattle.laws.specs.TableLaws.{cell-kept, cell-set}
 
 -- the table that COLLECT at p makes of t
 abbrev pub collected : Table → ℕ → Table
@@ -78,19 +77,19 @@ module _ (t : Table) (p : ℕ) where
 
   -- ---- entries
 
+  -- the cell of an object is as it was; or the entry at p is gone with its object; or it is set unused, since nothing at p holds the object
+  pub data Changed (o : ℕ) : Cell → Type 0 where
+    kept-cell : isGone t p o ≡ false → Changed o (cellAt t o)
+    gone-cell : isGone t p o ≡ true → Changed o (cellWith (cellAt t o) p Absent)
+    unused-cell : isGone t p o ≡ false → owner o ≢ p → isHeldAt t p o ≡ false → Changed o (cellWith (cellAt t o) p (setUnused (entryAt t p o)))
+
   module _ (o : ℕ) (lt : o < OBJECTS) where
     -- the cell of an object is what COLLECT makes of it
     cell-after : cellAt (collected t p) o ≡ cellCollected t p (kept t p) (heldAt t p (kept t p)) o (cellAt t o)
     cell-after = getD-list OBJECTS (λ x. cellCollected t p (kept t p) (heldAt t p (kept t p)) x (cellAt t x)) o _ lt
 
-    -- the cell of an object is as it was; or the entry at p is gone with its object; or it is set unused, since nothing at p holds the object
-    data Changed : Cell → Type 0 where
-      kept-cell : isGone t p o ≡ false → Changed (cellAt t o)
-      gone-cell : isGone t p o ≡ true → Changed (cellWith (cellAt t o) p Absent)
-      unused-cell : isGone t p o ≡ false → owner o ≢ p → isHeldAt t p o ≡ false → Changed (cellWith (cellAt t o) p (setUnused (entryAt t p o)))
-
     -- one of the three it is
-    changed : Changed (cellAt (collected t p) o)
+    pub changed : Changed o (cellAt (collected t p) o)
     unfolding cellCollected
     changed = rw cell-after (go (ownedBy p o) (isGone t p o) (isHeldAt t p o) refl refl refl)
       where
@@ -99,7 +98,7 @@ module _ (t : Table) (p : ℕ) where
         others away = rw away
 
         go : (a b c : Bool) → ownedBy p o ≡ a → isGone t p o ≡ b → isHeldAt t p o ≡ c
-            → Changed (
+            → Changed o (
             if a
             then (if b then cellWith (cellAt t o) p Absent else cellAt t o)
             else (if c then cellAt t o else cellWith (cellAt t o) p (setUnused (entryAt t p o))))
@@ -112,19 +111,16 @@ module _ (t : Table) (p : ℕ) where
     pub collected-elsewhere : (q : ℕ) → q ≢ p → entryAt (collected t p) q o ≡ entryAt t q o
     collected-elsewhere q other = go (cellAt (collected t p) o) changed
       where
-        elsewhere : (e : Entry) → entryIn (cellWith (cellAt t o) p e) q ≡ entryAt t q o
-        elsewhere e = ap (λ (x : Slot). x .held) (getD-set-other (cellAt t o .at) p q (record { held = e }) _ other)
-
-        go : (c : Cell) → Changed c → entryIn c q ≡ entryAt t q o
+        go : (c : Cell) → Changed o c → entryIn c q ≡ entryAt t q o
         go c (kept-cell stays) = refl
-        go c (gone-cell gone) = elsewhere Absent
-        go c (unused-cell stays away idle) = elsewhere (setUnused (entryAt t p o))
+        go c (gone-cell gone) = cell-kept (cellAt t o) p q Absent other
+        go c (unused-cell stays away idle) = cell-kept (cellAt t o) p q (setUnused (entryAt t p o)) other
 
     -- where p holds an object that is not reclaimed, or owns it, every entry of it is as it was
     pub collected-kept : isGone t p o ≡ false → (owner o ≡ p) ⊎ (isHeldAt t p o ≡ true) → (q : ℕ) → entryAt (collected t p) q o ≡ entryAt t q o
     collected-kept stays why q = go (cellAt (collected t p) o) changed
       where
-        go : (c : Cell) → Changed c → entryIn c q ≡ entryAt t q o
+        go : (c : Cell) → Changed o c → entryIn c q ≡ entryAt t q o
         go c (kept-cell _) = refl
         go c (gone-cell gone) = absurd (false≢true (sym stays ∙ gone))
         go c (unused-cell _ away idle) = absurd (⊎-elim away (λ held. false≢true (sym idle ∙ held)) why)
@@ -138,14 +134,14 @@ module _ (t : Table) (p : ℕ) where
         long = omega (arith, formed .entries o lt)
 
         at-p : (e : Entry) → entryIn (cellWith (cellAt t o) p e) p ≡ e
-        at-p e = ap (λ (x : Slot). x .held) (getD-set-same (cellAt t o .at) p (record { held = e }) _ long)
+        at-p e = cell-set (cellAt t o) p e long
 
         unused : (e : Entry) → isDirectory (setUnused e) ≡ true → isDirectory e ≡ true
         unused Absent d = d
         unused (AtOwner x) d = d
         unused (Elsewhere x) d = d
 
-        go : (c : Cell) → Changed c → isDirectory (entryIn c p) ≡ true → (isDirectory (entryAt t p o) ≡ true) × (isGone t p o ≡ false)
+        go : (c : Cell) → Changed o c → isDirectory (entryIn c p) ≡ true → (isDirectory (entryAt t p o) ≡ true) × (isGone t p o ≡ false)
         go c (kept-cell stays) d = (d, stays)
         go c (gone-cell gone) d = absurd (false≢true (sym (ap isDirectory (at-p Absent)) ∙ d))
         go c (unused-cell stays away idle) d =

@@ -41,7 +41,6 @@ pub mod Nobody
 pub mod NotTorn
 pub mod Passings
 pub mod Presence
-pub mod Reclaimed
 pub mod Sequence
 pub mod ShapeLaws
 pub mod Sound

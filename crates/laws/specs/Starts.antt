@@ -11,11 +11,11 @@ use lib.ListN.{getD}
 use Rattle.terms.specs.Choose.{if_then_else_, _and_, _or_}
 use Rattle.terms.specs.Counted.{holds}
 use Rattle.terms.specs.CountedLaws.{Some, and-passes, or-passes, getD-list, holds-append, holds-first, holds-gather}
-use Rattle.terms.specs.Limits.{OWNED, ROOTS, owner}
+use Rattle.terms.specs.Limits.{OBJECTS, OWNED, ROOTS, owner}
 use Rattle.entry.specs.Entry.{isClear}
 use Rattle.heap.specs.Heap.{isLive, rootAt, rootsOf}
 use Rattle.heap.specs.Reached.{reached-is}
-use Rattle.heap.specs.Walk.{Reached, isMarked, ownedBy, pointed}
+use Rattle.heap.specs.Walk.{Reached, Within, started, isMarked, ownedBy, pointed}
 use Rattle.table.specs.declared.Table.{Table}
 use Rattle.table.specs.Table.{entryAt}
 use Rattle.step.specs.Collect.{counted, starts, kept, isReclaimed}
@@ -119,3 +119,16 @@ stays-kept t p o own live stays = go (isMarked (kept t p) o) refl
     go false off =
         let unreached : Kept t p o → ⊥ = λ way. true≢false (sym (kept-is t p o .1 way) ∙ off) in
         absurd (true≢false (sym (reclaimed-is t p o .1 (record { own = own; live = live; unreached = unreached })) ∙ stays))
+
+-- the directory of a reclaimed object is clear: "both numbers 0", since one that isn't is started from
+pub reclaimed-clear : (t : Table) (p o : ℕ) → o < OBJECTS → isReclaimed t p (kept t p) o ≡ true → isClear (entryAt t p o) ≡ true
+reclaimed-clear t p o lt gone = go (isClear (entryAt t p o)) refl
+  where
+    known : Reclaimed t p o
+    known = reclaimed-is t p o .0 gone
+
+    go : (b : Bool) → isClear (entryAt t p o) ≡ b → b ≡ true
+    go true e = refl
+    go false e =
+        let within : Within (ownedBy p) o = record { number = lt; inside = eq-eqb (owner o) p (known .own) } in
+        absurd (known .unreached (started within (starts-is t p o .1 (inr (record { own = known .own; unclear = e })))))
