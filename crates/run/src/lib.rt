@@ -1,7 +1,6 @@
 // A run of event records from the fresh state, and the text that tells of it.
 use crate::line::put_ending;
 use crate::line::put_line;
-use crate::records::RECORD;
 use crate::records::next_at;
 use step::Event;
 use table::Table;
@@ -92,7 +91,7 @@ fn tell(input: &[u8], out: &mut [u8]) -> Ran
         let o = step::step(table, e);
         at = put_line(out, at, p.records + 1, e, o);
         p = p.after(o);
-        from += RECORD;
+        from += Event::RECORD;
     }
     let front = next_at(input, from);
     finish(out, at, p, front)

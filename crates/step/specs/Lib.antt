@@ -2,6 +2,7 @@ pub mod Clear
 pub mod Collect
 pub mod Drop
 pub mod Event
+pub mod EventBytes
 pub mod EventRecord
 pub mod Load
 pub mod Move

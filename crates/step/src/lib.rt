@@ -9,6 +9,7 @@ mod kinds;
 mod new;
 mod outcomes;
 mod receive;
+mod records;
 mod roots;
 mod send;
 mod settle;
