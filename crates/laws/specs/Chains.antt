@@ -28,7 +28,8 @@ use Rattle.laws.specs.LawB.{LawB}
 use Rattle.laws.specs.LawC.{LawC}
 use Rattle.laws.specs.Lawful.{rules, share, Lawful}
 use Rattle.laws.specs.LawfulKept.{total-is}
-use Rattle.laws.specs.Spot.{entry-fits, remote-fits}
+use Rattle.laws.specs.ShapeLaws.{shaped}
+use Rattle.laws.specs.Spot.{remote-fits}
 
 -- a count stands in an entry
 counted-stands : (e : Entry) → 0 < rcOf e → isAbsent e ≡ false
@@ -76,7 +77,7 @@ module _ (t : Table) (o : ℕ) (shape : fitsTable t ≡ true) (lo : o < OBJECTS)
         → (r .parent < NODES) × (height (rules o) (share t o) lawful (r .parent) < height (rules o) (share t o) lawful p)
         × (isAbsent (entryAt t (r .parent) o) ≡ false)
     parent-below p lp r here =
-        let fits = remote-fits p o r (rw here at (entry-fits t shape p o lp lo)) in
+        let fits = remote-fits p o r (rw here at (shaped t shape .entries p o lp lo)) in
         let weighs : 0 < weightUnder (r .parent) (entryAt t p o) = rw (here, under-own r) (fits .weighs) in (
           fits .parent,
           height-falls (rules o) (share t o) lawful p (r .parent) lp (fits .parent) weighs,

@@ -28,7 +28,8 @@ use Rattle.laws.specs.Counts.{foreign, none-is, under-own}
 use Rattle.laws.specs.LawA.{airUnder}
 use Rattle.laws.specs.LawB.{isHomeward, returnsIn}
 use Rattle.laws.specs.Lawful.{rules, share, Lawful}
-use Rattle.laws.specs.Spot.{entry-fits, message-fits, directory-at, remote-fits, reference-fits, decrement-fits}
+use Rattle.laws.specs.ShapeLaws.{shaped}
+use Rattle.laws.specs.Spot.{directory-at, remote-fits, reference-fits, decrement-fits}
 
 -- ---- single entries and messages
 
@@ -63,7 +64,7 @@ module _ (o : ℕ) where
       go true true air home = absurd (true≢false home)
       go true false air home = let counted = rw (eq-eqb from from refl) at air in absurd (omega arith)
   unheard (Decrement from to x m n) fits air home =
-      let f = decrement-fits from to x m n fits in go (eqb x o) (f .weighs) (air to (f .way .receiver))
+      let f = decrement-fits from to x m n fits in go (eqb x o) (f .weighs) (air to (f .path .receiver))
     where
       go : (mine : Bool) → 0 < n .0 → (if mine and eqb to to then n .0 else 0) ≡ 0 → mine ≡ false
       go true weighs air = let counted = rw (eq-eqb to to refl) at air in absurd (omega arith)
@@ -73,7 +74,7 @@ module _ (o : ℕ) where
   weighty : (x : Message) → fitsMessage x ≡ true → Some NODES (λ p. 0 < airUnder p o x) ⊎ (returnsIn o x ≡ pos 0)
   weighty Empty fits = inr refl
   weighty (Reference from to x) fits = inr refl
-  weighty (Decrement from to x m n) fits = let f = decrement-fits from to x m n fits in go (eqb x o) (f .way .receiver) (f .weighs)
+  weighty (Decrement from to x m n) fits = let f = decrement-fits from to x m n fits in go (eqb x o) (f .path .receiver) (f .weighs)
     where
       go : (mine : Bool) → to < NODES → 0 < n .0
           → Some NODES (λ p. 0 < (if mine and eqb to p then n .0 else 0)) ⊎ ((if mine then m .0 else pos 0) ≡ pos 0)
@@ -105,12 +106,12 @@ module _ (t : Table) (o : ℕ) (shape : fitsTable t ≡ true) (lo : o < OBJECTS)
   share-shaped = record {
     owner-number = owner-number;
     away = λ p lp ne.
-        let fits = entry-fits t shape p o lp lo in
+        let fits = shaped t shape .entries p o lp lo in
         ⊎-elim
         (λ remote. inl (hangs o p (entryAt t p o) fits remote))
         (λ none. inr (ap rcOf none, ap msgCtrOf none))
         (away-entry o p (entryAt t p o) fits ne);
-    weighty = λ s ls. weighty o (messageAt t s) (message-fits t shape s ls);
+    weighty = λ s ls. weighty o (messageAt t s) (shaped t shape .messages s ls);
   }
 
   module _ (lawful : Lawful t o) where
@@ -121,14 +122,14 @@ module _ (t : Table) (o : ℕ) (shape : fitsTable t ≡ true) (lo : o < OBJECTS)
         let counts = clear-counts o (entryAt t (owner o) o) clear in
         let nobody = clear-nobody (rules o) (share t o) lawful share-shaped (record { no-count = counts .0; no-return = counts .1 }) in (
           λ p lp ne.
-              let fits = entry-fits t shape p o lp lo in
+              let fits = shaped t shape .entries p o lp lo in
               ⊎-elim
               (λ remote.
               let some = hangs o p (entryAt t p o) fits remote in
               absurd (omega (arith, some .2, nobody .no-entry p (some .0) lp (some .1))))
               (ap isAbsent)
               (away-entry o p (entryAt t p o) fits ne),
-          λ s ls. unheard o (messageAt t s) (message-fits t shape s ls) (λ p lp. nobody .no-air s p ls lp) (nobody .no-home s ls),
+          λ s ls. unheard o (messageAt t s) (shaped t shape .messages s ls) (λ p lp. nobody .no-air s p ls lp) (nobody .no-home s ls),
         )
 
     -- and the other way: no remote entry and no message of the object, so its directory is clear
@@ -139,4 +140,4 @@ module _ (t : Table) (o : ℕ) (shape : fitsTable t ≡ true) (lo : o < OBJECTS)
           no-entry = λ p q lp lq. hangs-not o (entryAt t p o) q (no-entry p lp);
           no-air = λ s p ls lp. foreign o (messageAt t s) (no-message s ls) .air p;
           no-home = λ s ls. foreign o (messageAt t s) (no-message s ls) .home;
-        }) in counts-clear o (entryAt t (owner o) o) (entry-fits t shape (owner o) o owner-number lo) (clear .no-count) (clear .no-return)
+        }) in counts-clear o (entryAt t (owner o) o) (shaped t shape .entries (owner o) o owner-number lo) (clear .no-count) (clear .no-return)

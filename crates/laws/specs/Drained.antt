@@ -37,31 +37,9 @@ use Rattle.laws.specs.LawA.{airUnder}
 use Rattle.laws.specs.LawE.{Unused, due, Clear, InAir}
 use Rattle.laws.specs.Lawful.{rules, share, Lawful}
 use Rattle.laws.specs.LawfulKept.{patch}
-use Rattle.laws.specs.Spot.{entry-fits, remote-fits}
-
--- ---- the sort of an act
-
--- a reference is sent
-abbrev pub isSending : {o p : ℕ} {e : Entry} {x : Message} {e′ : Entry} {y : Message} → Act o p e x e′ y → Bool
-isSending (other ex ey) = false
-isSending same = false
-isSending (sends apart number ok) = true
-isSending (receives ok) = false
-isSending (settles ok) = false
-isSending unused = false
-isSending (drops may) = false
-isSending (clears may) = false
-
--- a decrement is settled
-abbrev pub isSettling : {o p : ℕ} {e : Entry} {x : Message} {e′ : Entry} {y : Message} → Act o p e x e′ y → Bool
-isSettling (other ex ey) = false
-isSettling same = false
-isSettling (sends apart number ok) = false
-isSettling (receives ok) = false
-isSettling (settles ok) = true
-isSettling unused = false
-isSettling (drops may) = false
-isSettling (clears may) = false
+use Rattle.laws.specs.Linked.{isSent, isSettled}
+use Rattle.laws.specs.ShapeLaws.{shaped}
+use Rattle.laws.specs.Spot.{remote-fits}
 
 -- ---- single entries and messages
 
@@ -117,8 +95,8 @@ record Draining (o : ℕ) (e : Entry) (x : Message) (e′ : Entry) (y : Message)
   left : settle + (one (isRemote e′) + one (isDecrementOf o y)) ≡ one (isRemote e) + one (isDecrementOf o x)
 
 -- each such act lowers what is due by one if it settles, and else not
-draining : {o p : ℕ} {e : Entry} {x : Message} {e′ : Entry} {y : Message} (act : Act o p e x e′ y) → isSending act ≡ false → isReferenceOf o x ≡ false
-    → Draining o e x e′ y (one (isSettling act))
+draining : {o p : ℕ} {e : Entry} {x : Message} {e′ : Entry} {y : Message} (act : Act o p e x e′ y) → isSent act ≡ false → isReferenceOf o x ≡ false
+    → Draining o e x e′ y (one (isSettled act))
 draining {o} (other {x = x} {y = y} ex ey) still none = record {
   idle = λ e. e;
   quiet = not-of o y ey .0;
@@ -140,11 +118,11 @@ draining (clears may) still none = record { idle = λ absent. refl; quiet = none
 
 -- ---- changes
 
-module _ {t u : Table} {o : ℕ} (change : Change t u o) (idle : Unused t o) (still : isSending (change .act) ≡ false) where
+module _ {t u : Table} {o : ℕ} (change : Change t u o) (idle : Unused t o) (still : isSent (change .act) ≡ false) where
   -- the act of the change
   drained : Draining o
       (entryAt t (change .node) o) (messageAt t (change .place)) (entryAt u (change .node) o) (messageAt u (change .place))
-      (one (isSettling (change .act)))
+      (one (isSettled (change .act)))
   drained = draining (change .act) still (idle .quiet (change .place) (change .place-number))
 
   -- nobody uses the object after it
@@ -161,7 +139,7 @@ module _ {t u : Table} {o : ℕ} (change : Change t u o) (idle : Unused t o) (st
   }
 
   -- one less is due for a SETTLE, and no less for anything else
-  pub due-kept : one (isSettling (change .act)) + due u o ≡ due t o
+  pub due-kept : one (isSettled (change .act)) + due u o ≡ due t o
   due-kept = omega (
     arith,
     measured (rules o) (share t o) (share u o) (patch change) (λ e. one (isRemote e)) (λ x. one (isDecrementOf o x)),
@@ -189,7 +167,7 @@ module _ (t : Table) (o : ℕ) (shape : fitsTable t ≡ true) (lo : o < OBJECTS)
   )
     where
       not-remote : (p : ℕ) → p < NODES → (p ≢ owner o → isAbsent (entryAt t p o) ≡ true) → isRemote (entryAt t p o) ≡ false
-      not-remote p lp absent = go (entryAt t p o) (entry-fits t shape p o lp lo) absent
+      not-remote p lp absent = go (entryAt t p o) (shaped t shape .entries p o lp lo) absent
         where
           go : (e : Entry) → fitsEntry p o e ≡ true → (p ≢ owner o → isAbsent e ≡ true) → isRemote e ≡ false
           go Absent fits absent = refl
@@ -202,7 +180,7 @@ module _ (t : Table) (o : ℕ) (shape : fitsTable t ≡ true) (lo : o < OBJECTS)
     | yes none ↦
         let remote = sum-some NODES (λ p. one (isRemote (entryAt t p o))) (omega arith) in
         let p = remote .0 in
-        let hung = hangs o p (entryAt t p o) (entry-fits t shape p o (remote .1) lo) (one-true (isRemote (entryAt t p o)) (remote .2)) in
+        let hung = hangs o p (entryAt t p o) (shaped t shape .entries p o (remote .1) lo) (one-true (isRemote (entryAt t p o)) (remote .2)) in
         let unheard : (s x : ℕ) → s < PLACES → x < NODES → airUnder x o (messageAt t s) ≡ 0 =
         λ s x ls lx. foreign o (messageAt t s) (no-message none s ls) .air x in
         let found = leaf (rules o) (share t o) lawful unheard (p, remote .1, hung) in

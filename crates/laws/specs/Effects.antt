@@ -258,7 +258,7 @@ module _ (o p : ℕ) where
   act-effect (other {e = e} {x = x} {y = y} ex ey) fits way = turned-effect o p 0 0 (pos 0) (same-turn e) (passes-foreign o p x y ex ey)
   act-effect (same {e = e}) fits way = idle (same-turn e)
   act-effect (sends {e = e} {q = q} apart number ok) fits way = sent-effect q apart e fits ok
-  act-effect (receives {e = e} {q = q} ok) fits way = received-effect q (reference-fits q p o way .other) e fits ok
+  act-effect (receives {e = e} {q = q} ok) fits way = received-effect q (reference-fits q p o way .away) e fits ok
   act-effect (settles {e = e} {q = q} {m = m} {n = n} ok) fits way = settled-effect q m n e (decrement-fits q p o m n way .returns) ok
   act-effect (unused {e = e}) fits way = idle (unused-turn e)
   act-effect (drops {e = e} may) fits way = dropped e may

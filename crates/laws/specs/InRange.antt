@@ -33,7 +33,8 @@ use Rattle.laws.specs.LawA.{airUnder}
 use Rattle.laws.specs.LawB.{returnsIn}
 use Rattle.laws.specs.Lawful.{rules, share, Lawful}
 use Rattle.laws.specs.Sound.{above, below}
-use Rattle.laws.specs.Spot.{entry-fits, message-fits, natural-returns, remote-fits, reference-fits, decrement-fits}
+use Rattle.laws.specs.ShapeLaws.{shaped}
+use Rattle.laws.specs.Spot.{natural-returns, remote-fits, reference-fits, decrement-fits}
 use Rattle.laws.specs.Within.{Within}
 
 -- ---- ranges
@@ -121,11 +122,11 @@ module _ (t : Table) (o : ℕ) (shape : fitsTable t ≡ true) (lo : o < OBJECTS)
   pub settles-in-range : (s q p : ℕ) (m : ReturnCount) (w : Weight) → s < PLACES → messageAt t s ≡ Decrement q p o m w
       → refuses (settled m w (entryAt t p o)) ≡ false
   settles-in-range s q p m w ls here =
-      let f = decrement-fits q p o m w (rw here at (message-fits t shape s ls)) in
-      let lp = f .way .receiver in
+      let f = decrement-fits q p o m w (rw here at (shaped t shape .messages s ls)) in
+      let lp = f .path .receiver in
       let air : airUnder p o (messageAt t s) ≡ w .0 = rw (here, decrement-air o q p m w p, eq-eqb p p refl) in
       let carried : returnsIn o (messageAt t s) ≡ m .0 = ap (returnsIn o) here ∙ decrement-carried o q p m w in
-      settled-in-range p o n low m w (entryAt t p o) (entry-fits t shape p o lp lo) (f .returns) (f .weighs)
+      settled-in-range p o n low m w (entryAt t p o) (shaped t shape .entries p o lp lo) (f .returns) (f .weighs)
       (omega (arith, air-counted (rules o) (share t o) lawful s p ls lp))
       (rw carried at (returns-part p s lp ls))
       (within .owed p lp)
@@ -142,14 +143,14 @@ module _ (t : Table) (o : ℕ) (shape : fitsTable t ≡ true) (lo : o < OBJECTS)
   -- a RefWeight is part of the Parent's count
   weight-within : (p : ℕ) → p < NODES → (r : Remote) → entryAt t p o ≡ Elsewhere r → r .«ref_weight» .0 ≤ n
   weight-within p lp r here =
-      let parent = remote-fits p o r (rw here at (entry-fits t shape p o lp lo)) .parent in
+      let parent = remote-fits p o r (rw here at (shaped t shape .entries p o lp lo)) .parent in
       let weighs : weightUnder (r .parent) (entryAt t p o) ≡ r .«ref_weight» .0 = rw (here, under-own r) in
       omega (arith, weight-counted (rules o) (share t o) lawful p (r .parent) lp parent, within .counts (r .parent) parent)
 
   -- RECEIVE
   pub receives-in-range : (s q p : ℕ) → s < PLACES → messageAt t s ≡ Reference q p o → refuses (received q p o (entryAt t p o)) ≡ false
   receives-in-range s q p ls here =
-      let f = reference-fits q p o (rw here at (message-fits t shape s ls)) in
+      let f = reference-fits q p o (rw here at (shaped t shape .messages s ls)) in
       let lp = f .receiver in
       received-in-range p o n low q (entryAt t p o)
       (λ home. rw home (heard-not-clear s ls (ap (isOf o) here ∙ eq-eqb o o refl)))
@@ -160,5 +161,5 @@ module _ (t : Table) (o : ℕ) (shape : fitsTable t ≡ true) (lo : o < OBJECTS)
   -- SEND by the owner, or by a node that has the object in use
   pub sends-in-range : (p q : ℕ) → p < NODES → (p ≡ owner o) ⊎ (isPresent (entryAt t p o) ≡ true) → refuses (sent p q o (entryAt t p o)) ≡ false
   sends-in-range p q lp holder =
-      sent-in-range p o n low q (entryAt t p o) (entry-fits t shape p o lp lo) holder (within .counts p lp)
+      sent-in-range p o n low q (entryAt t p o) (shaped t shape .entries p o lp lo) holder (within .counts p lp)
       (omega (arith, returns-part p 0 lp (omega arith)))

@@ -2,34 +2,28 @@
 -- follow as document 01 states them (law C is in specs/Chains.antt). Assumes nothing.
 use mathlib.Core.Path.{_≡_, refl, sym, ap, ap₂, _∙_}
 use mathlib.Core.Bool.{true}
-use mathlib.Core.List.{[]}
 use Prim.Native.Nat.{ℕ, zero, suc, _+_, _<_}
 use native.Mathlib.Omega.{arith}
 use lib.IntN.{ℤ, pos, _+ℤ_}
-use lib.ListN.{replicate, getD-replicate}
 use Rattle.terms.specs.Counted.{one}
 use Rattle.terms.specs.CountedLaws.{sum-zero}
 use Rattle.terms.specs.Limits.{NODES, OBJECTS, PLACES}
-use Rattle.entry.specs.declared.Entry.the-variants.{Absent}
 use Rattle.entry.specs.Entry.{msgCtrOf, rcOf, weightUnder}
 use Rattle.counting.specs.Adding as adding
 use Rattle.counting.specs.Adding.{whole, total-nothing}
 use Rattle.counting.specs.Rules.{Patch}
 use Rattle.counting.specs.Kept.{kept}
-use Rattle.table.specs.declared.Message.the-variants.{Empty}
-use Rattle.table.specs.declared.Cell.{Cell}
-use Rattle.table.specs.declared.Place.{Place}
-use Rattle.table.specs.declared.Slot.{Slot}
 use Rattle.table.specs.declared.Table.{Table}
 use Rattle.table.specs.Shape.{fitsTable}
 use Rattle.table.specs.Table.{freshTable, entryAt, messageAt}
 use Rattle.laws.specs.Change.{Change}
 use Rattle.laws.specs.Effect.{Effect}
 use Rattle.laws.specs.Effects.{act-effect}
+use Rattle.laws.specs.Kept.{fresh-entry, fresh-message}
 use Rattle.laws.specs.LawA.{LawA, airUnder}
 use Rattle.laws.specs.LawB.{LawB, isHomeward, returnsIn, totalFrom}
 use Rattle.laws.specs.Lawful.{rules, share, Lawful}
-use Rattle.laws.specs.Spot.{entry-fits, message-fits}
+use Rattle.laws.specs.ShapeLaws.{shaped}
 
 -- ---- a change
 
@@ -50,8 +44,8 @@ module _ {t u : Table} {o : ℕ} (change : Change t u o) where
       → Effect o (change .node) (entryAt t (change .node) o) (messageAt t (change .place)) (entryAt u (change .node) o) (messageAt u (change .place))
   effect shape lo =
       act-effect o (change .node) (change .act)
-      (entry-fits t shape (change .node) o (change .node-number) lo)
-      (message-fits t shape (change .place) (change .place-number))
+      (shaped t shape .entries (change .node) o (change .node-number) lo)
+      (shaped t shape .messages (change .place) (change .place-number))
 
   -- the laws are kept
   pub lawful-kept : fitsTable t ≡ true → o < OBJECTS → Lawful t o → Lawful u o
@@ -59,17 +53,7 @@ module _ {t u : Table} {o : ℕ} (change : Change t u o) where
 
 -- ---- the fresh table
 
--- no entry
-pub fresh-entry : (p o : ℕ) → p < NODES → o < OBJECTS → entryAt freshTable p o ≡ Absent
-fresh-entry p o lp lo =
-    let slot : Slot = record { held = Absent } in
-    rw (getD-replicate {A = Cell} OBJECTS o (record { at = replicate NODES slot }) (record { at = [] }) lo, getD-replicate NODES p slot slot lp)
-
--- and no message
-pub fresh-message : (s : ℕ) → s < PLACES → messageAt freshTable s ≡ Empty
-fresh-message s ls = ap (λ (x : Place). x .held) (getD-replicate PLACES s (record { held = Empty }) (record { held = Empty }) ls)
-
--- so every count is nought
+-- no entry and no message, so every count is nought
 pub lawful-fresh : (o : ℕ) → o < OBJECTS → Lawful freshTable o
 lawful-fresh o lo =
     let none : (p q : ℕ) → p < NODES → weightUnder q (entryAt freshTable p o) ≡ 0 = λ p q lp. ap (weightUnder q) (fresh-entry p o lp lo) in

@@ -14,9 +14,10 @@ use Rattle.table.specs.declared.Table.{Table}
 use Rattle.table.specs.Shape.{fitsTable}
 use Rattle.table.specs.Table.{freshTable, entryAt, messageAt}
 use Rattle.laws.specs.Change.{Change}
+use Rattle.laws.specs.Kept.{fresh-entry, fresh-message}
 use Rattle.laws.specs.LawB.{returnsIn}
 use Rattle.laws.specs.Lawful.{rules, share}
-use Rattle.laws.specs.LawfulKept.{patch, effect, fresh-entry, fresh-message}
+use Rattle.laws.specs.LawfulKept.{patch, effect}
 use Rattle.laws.specs.Sound.{above, below}
 use Rattle.laws.specs.Within.{Within}
 
