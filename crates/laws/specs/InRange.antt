@@ -55,7 +55,7 @@ not-below c fits = ap below (natural-returns c fits)
 
 -- ---- single entries
 
-module _ (p o : ℕ) (n : ℕ) (low : n < MOST) where
+module _ (p o : ℕ) (n : ℕ) (few : n ≤ MOST) where
   -- a decrement of no more than RC, and return counts that are within the limit together
   settled-in-range : (m : ReturnCount) (w : Weight) (e : Entry) → fitsEntry p o e ≡ true → fitsReturns m ≡ true → 0 < w .0 → w .0 ≤ rcOf e
       → above (msgCtrOf e) + above (m .0) ≤ n → below (msgCtrOf e) ≤ n → refuses (settled m w e) ≡ false
@@ -72,6 +72,7 @@ module _ (p o : ℕ) (n : ℕ) (low : n < MOST) where
       let after = remote-range (e .«msg_ctr» .0 +ℤ m .0) (omega (arith, not-below m natural, not-below (e .«msg_ctr») (f .returns))) (omega arith) in
       rw (le-leb (w .0) (e .rc) enough, natural, f .returns, after)
 
+module _ (p o : ℕ) (n : ℕ) (low : n < MOST) where
   -- a reference, home only where the directory isn't clear
   received-in-range : (q : ℕ) (e : Entry) → (p ≡ owner o → isClear e ≡ false) → above (msgCtrOf e) ≤ n → below (msgCtrOf e) ≤ n
       → ((r : Remote) → e ≡ Elsewhere r → r .«ref_weight» .0 < MOST) → refuses (received q p o e) ≡ false
@@ -107,29 +108,37 @@ module _ (p o : ℕ) (n : ℕ) (low : n < MOST) where
 
 -- ---- tables
 
-module _ (t : Table) (o : ℕ) (shape : fitsTable t ≡ true) (lo : o < OBJECTS) (lawful : Lawful t o)
-    (n : ℕ) (low : n < MOST) (within : Within n t o) where
-  -- a return count is part of all
-  returns-part : (p s : ℕ) → p < NODES → s < PLACES → above (msgCtrOf (entryAt t p o)) + above (returnsIn o (messageAt t s)) ≤ n
-  returns-part p s lp ls = omega (
-    arith,
-    sum-at NODES (λ x. above (msgCtrOf (entryAt t x o))) p lp,
-    sum-at PLACES (λ x. above (returnsIn o (messageAt t x))) s ls,
-    within .returns,
-  )
+-- a return count is part of all
+returns-part : {t : Table} {o n : ℕ} → Within n t o → (p s : ℕ) → p < NODES → s < PLACES
+    → above (msgCtrOf (entryAt t p o)) + above (returnsIn o (messageAt t s)) ≤ n
+returns-part {t} {o} within p s lp ls = omega (
+  arith,
+  sum-at NODES (λ x. above (msgCtrOf (entryAt t x o))) p lp,
+  sum-at PLACES (λ x. above (returnsIn o (messageAt t x))) s ls,
+  within .returns,
+)
 
-  -- SETTLE
-  pub settles-in-range : (s q p : ℕ) (m : ReturnCount) (w : Weight) → s < PLACES → messageAt t s ≡ Decrement q p o m w
+-- SETTLE, even where the limit is reached
+module _ (t : Table) (o : ℕ) (shape : fitsTable t ≡ true) (lo : o < OBJECTS) (lawful : Lawful t o)
+    (n : ℕ) (few : n ≤ MOST) (within : Within n t o) where
+  pub settles-at-most : (s q p : ℕ) (m : ReturnCount) (w : Weight) → s < PLACES → messageAt t s ≡ Decrement q p o m w
       → refuses (settled m w (entryAt t p o)) ≡ false
-  settles-in-range s q p m w ls here =
+  settles-at-most s q p m w ls here =
       let f = decrement-fits q p o m w (rw here at (shaped t shape .messages s ls)) in
       let lp = f .path .receiver in
       let air : airUnder p o (messageAt t s) ≡ w .0 = rw (here, decrement-air o q p m w p, eq-eqb p p refl) in
       let carried : returnsIn o (messageAt t s) ≡ m .0 = ap (returnsIn o) here ∙ decrement-carried o q p m w in
-      settled-in-range p o n low m w (entryAt t p o) (shaped t shape .entries p o lp lo) (f .returns) (f .weighs)
+      settled-in-range p o n few m w (entryAt t p o) (shaped t shape .entries p o lp lo) (f .returns) (f .weighs)
       (omega (arith, air-counted (rules o) (share t o) lawful s p ls lp))
-      (rw carried at (returns-part p s lp ls))
+      (rw carried at (returns-part within p s lp ls))
       (within .owed p lp)
+
+module _ (t : Table) (o : ℕ) (shape : fitsTable t ≡ true) (lo : o < OBJECTS) (lawful : Lawful t o)
+    (n : ℕ) (low : n < MOST) (within : Within n t o) where
+  -- SETTLE
+  pub settles-in-range : (s q p : ℕ) (m : ReturnCount) (w : Weight) → s < PLACES → messageAt t s ≡ Decrement q p o m w
+      → refuses (settled m w (entryAt t p o)) ≡ false
+  settles-in-range = settles-at-most t o shape lo lawful n (omega arith) within
 
   -- while a message of the object is in the air, its directory is not clear
   heard-not-clear : (s : ℕ) → s < PLACES → isOf o (messageAt t s) ≡ true → isClear (entryAt t (owner o) o) ≡ false
@@ -154,7 +163,7 @@ module _ (t : Table) (o : ℕ) (shape : fitsTable t ≡ true) (lo : o < OBJECTS)
       let lp = f .receiver in
       received-in-range p o n low q (entryAt t p o)
       (λ home. rw home (heard-not-clear s ls (ap (isOf o) here ∙ eq-eqb o o refl)))
-      (omega (arith, returns-part p s lp ls))
+      (omega (arith, returns-part within p s lp ls))
       (within .owed p lp)
       (λ r at. omega (arith, weight-within p lp r at))
 
@@ -162,4 +171,4 @@ module _ (t : Table) (o : ℕ) (shape : fitsTable t ≡ true) (lo : o < OBJECTS)
   pub sends-in-range : (p q : ℕ) → p < NODES → (p ≡ owner o) ⊎ (isPresent (entryAt t p o) ≡ true) → refuses (sent p q o (entryAt t p o)) ≡ false
   sends-in-range p q lp holder =
       sent-in-range p o n low q (entryAt t p o) (shaped t shape .entries p o lp lo) holder (within .counts p lp)
-      (omega (arith, returns-part p 0 lp (omega arith)))
+      (omega (arith, returns-part within p 0 lp (omega arith)))

@@ -31,6 +31,7 @@ pub mod LawB
 pub mod LawC
 pub mod LawD
 pub mod LawE
+pub mod LawEHolds
 pub mod Lawful
 pub mod LawfulKept
 pub mod Link
@@ -39,6 +40,7 @@ pub mod Linked
 pub mod NewOrSame
 pub mod Nobody
 pub mod NotTorn
+pub mod OneMore
 pub mod Passings
 pub mod Presence
 pub mod Sequence

@@ -1,0 +1,63 @@
+-- Law E holds in every table whose counts are in order, and so always: after any accepted events without a SEND of the object, as many SETTLEs of it
+-- and what is still due are what was due (document 01, law E; PROOF-PLAN, "Law E"). Assumes nothing.
+use mathlib.Core.Path.{_≡_}
+use mathlib.Core.Bool.{true}
+use Prim.Native.Nat.{ℕ, _+_}
+use native.Mathlib.Nat.{zero-add}
+use native.Mathlib.Omega.{arith}
+use Rattle.table.specs.declared.Table.{Table}
+use Rattle.table.specs.Formed.{Formed}
+use Rattle.table.specs.Shape.{fitsTable}
+use Rattle.table.specs.Table.{freshTable}
+use Rattle.step.specs.Step.{step}
+use Rattle.laws.specs.Along.{carried}
+use Rattle.laws.specs.CountsKept.{Counted, counted-fresh, counted-kept, counted-lawful}
+use Rattle.laws.specs.DidLaws.{count-after}
+use Rattle.laws.specs.Drained.{due-clear, due-kept, unused-kept}
+use Rattle.laws.specs.Kept.{Keeps, always, always-formed, fresh-shape}
+use Rattle.laws.specs.KeepsShape.{keeps-shape}
+use Rattle.laws.specs.LawE.{LawE, Unused, due}
+use Rattle.laws.specs.LinkCollect.{change}
+use Rattle.laws.specs.OneMore.{onward}
+use Rattle.laws.specs.Sequence.{Always}
+
+-- the counts are in order
+pub record InOrder (t : Table) : Type 0 where
+  pub shape : fitsTable t ≡ true
+  pub counted : Counted t
+
+-- every accepted event keeps them so
+keeps-order : Keeps InOrder
+keeps-order t e formed accepted order =
+    let after = keeps-shape t e formed accepted in
+    record {
+      shape = after;
+      counted = counted-kept t (step t e .table) (order .shape) after (count-after t e accepted) (change t e formed accepted) (order .counted);
+    }
+
+-- n SETTLEs of o on the way from a table where `whole` was due: nobody uses o, and the rest is due
+record Due (o whole n : ℕ) (t : Table) : Type 0 where
+  order : InOrder t
+  idle : Unused t o
+  rest : n + due t o ≡ whole
+
+-- law E of a formed table whose counts are in order
+pub law-e : (t : Table) → Formed t → InOrder t → LawE t
+law-e t formed order o lo idle es u run unsent =
+    let after = carried lo {P = Due o (due t o)}
+    (λ n t e formed accepted l quiet so-far. record {
+      order = keeps-order t e formed accepted (so-far .order);
+      idle = unused-kept (l .change) (so-far .idle) quiet;
+      rest = omega (arith, due-kept (l .change) (so-far .idle) quiet, so-far .rest);
+    }) formed run unsent 0 (record { order = order; idle = idle; rest = zero-add (due t o) }) in
+    let clear = due-clear u o (after .order .shape) lo (counted-lawful u (after .order .shape) (after .order .counted) o lo) (after .idle) in (
+      (λ is-clear. omega (arith, clear .1 is-clear, after .rest), λ all. clear .0 (omega (arith, after .rest))),
+      λ less. onward u o (after .order .shape) lo (after .order .counted) (after .idle) (omega (arith, after .rest)),
+    )
+
+-- law E always holds
+pub always-lawE : Always LawE
+always-lawE es t run = law-e t (always-formed es t run) (always keeps-order fresh es t run)
+  where
+    fresh : InOrder freshTable
+    fresh = record { shape = fresh-shape; counted = counted-fresh fresh-shape }
