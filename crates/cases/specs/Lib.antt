@@ -4,5 +4,6 @@ pub mod Errors
 pub mod FourBytes
 pub mod Images
 pub mod Rules
+pub mod Soundness
 pub mod Twelve
 pub mod WithoutReturns

@@ -94,7 +94,7 @@ pub record Done (t : Table) (e : Event) (rule : Rule) : Type 0 where
   pub after : step t e .table ≡ counting t (rule .effect .table)
 
 -- counting changes no answer
-counted-answer : (n : ℕ) (x : Outcome) → oneMore n x .answer ≡ x .answer
+pub counted-answer : (n : ℕ) (x : Outcome) → oneMore n x .answer ≡ x .answer
 counted-answer n x = go (isAccepted x)
   where
     go : (b : Bool) → (if b then record { answer = x .answer; deed = x .deed; table = withCount (x .table) (n + 1) } else x) .answer ≡ x .answer

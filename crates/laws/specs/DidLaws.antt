@@ -72,14 +72,14 @@ kind-numbers n =
 -- ---- operands
 
 -- each operand is below its bound
-record Below (r : Ranges) (e : Event) : Type 0 where
-  a : e .a < r .a
-  b : e .b < r .b
-  c : e .c < r .c
-  d : e .d < r .d
+pub record Below (r : Ranges) (e : Event) : Type 0 where
+  pub a : e .a < r .a
+  pub b : e .b < r .b
+  pub c : e .c < r .c
+  pub d : e .d < r .d
 
 -- so it is where the operands fit
-below : (r : Ranges) (e : Event) → fitsRanges r e ≡ true → Below r e
+pub below : (r : Ranges) (e : Event) → fitsRanges r e ≡ true → Below r e
 below r e fits =
     let one = and-passes (ltb (e .a) (r .a)) _ .0 fits in
     let two = and-passes (ltb (e .b) (r .b)) _ .0 (one .1) in
@@ -99,7 +99,7 @@ or-fails true b e = absurd (true≢false e)
 or-fails false b e = (refl, e)
 
 -- the entry is absent where the test says so
-absent-is : (e : Entry) → isAbsent e ≡ true → e ≡ Absent
+pub absent-is : (e : Entry) → isAbsent e ≡ true → e ≡ Absent
 absent-is Absent e = refl
 absent-is (AtOwner d) e = absurd (false≢true e)
 absent-is (Elsewhere x) e = absurd (false≢true e)

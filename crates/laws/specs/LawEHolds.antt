@@ -8,6 +8,7 @@ use native.Mathlib.Omega.{arith}
 use Rattle.table.specs.declared.Table.{Table}
 use Rattle.table.specs.Formed.{Formed}
 use Rattle.table.specs.Shape.{fitsTable}
+use Rattle.table.specs.Table.{freshTable}
 use Rattle.step.specs.Step.{step}
 use Rattle.laws.specs.Along.{carried}
 use Rattle.laws.specs.CountsKept.{Counted, counted-fresh, counted-kept, counted-lawful}
@@ -56,4 +57,7 @@ law-e t formed order o lo idle es u run unsent =
 
 -- law E always holds
 pub always-lawE : Always LawE
-always-lawE es t run = law-e t (always-formed es t run) (always keeps-order (record { shape = fresh-shape; counted = counted-fresh fresh-shape }) es t run)
+always-lawE es t run = law-e t (always-formed es t run) (always keeps-order fresh es t run)
+  where
+    fresh : InOrder freshTable
+    fresh = record { shape = fresh-shape; counted = counted-fresh fresh-shape }

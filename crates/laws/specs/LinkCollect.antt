@@ -1,40 +1,35 @@
 -- COLLECT at one node is one act on each object: its directory cleared, its remote entry set unused, or nothing. With that, every accepted
 -- event is linked to its act on every object: `linked`, and `change` for those who need no more. Assumes nothing.
-use mathlib.Core.Path.{_≡_, refl, ap, _∙_}
-use mathlib.Core.Bool.{Bool, true, false, false≢true}
-use mathlib.Core.List.{[]}
+use mathlib.Core.Path.{_≡_, refl}
+use mathlib.Core.Bool.{true, false≢true}
 use mathlib.Core.Logic.{_≢_}
 use Prim.Native.Nat.{ℕ, _<_}
 use native.Mathlib.Omega.{arith}
 use lib.ListN.{length}
-use Rattle.terms.specs.Choose.{if_then_else_}
-use Rattle.terms.specs.Counted.{holds}
-use Rattle.terms.specs.CountedLaws.{getD-list}
 use Rattle.terms.specs.Limits.{NODES, OBJECTS}
 use Rattle.terms.specs.Numbers.{ACCEPTED}
 use Rattle.entry.specs.declared.Entry.{Entry}
 use Rattle.entry.specs.declared.Entry.the-variants.{Absent, AtOwner, Elsewhere}
 use Rattle.entry.specs.AtNode.{mayGo, setUnused}
 use Rattle.entry.specs.Entry.{isClear}
-use Rattle.heap.specs.Walk.{ownedBy}
 use Rattle.table.specs.declared.Cell.{Cell}
 use Rattle.table.specs.declared.Message.{Message}
 use Rattle.table.specs.declared.Table.{Table}
 use Rattle.table.specs.Formed.{Formed}
-use Rattle.table.specs.Table.{cellAt, cellWith, entryAt, entryIn, messageAt}
+use Rattle.table.specs.Table.{cellAt, entryAt, entryIn, messageAt}
 use Rattle.step.specs.declared.Event.{Event}
-use Rattle.step.specs.Collect.{cellCollected, heldAt, isReclaimed, kept, withCollected}
 use Rattle.step.specs.Event.{COLLECT}
 use Rattle.step.specs.Step.{step}
 use Rattle.laws.specs.Answered.{counting, met}
 use Rattle.laws.specs.Change.{Act, Change}
+use Rattle.laws.specs.Collected.{Changed, changed, collected}
 use Rattle.laws.specs.Did.{Did}
 use Rattle.laws.specs.DidLaws.{did}
 use Rattle.laws.specs.LawE.{isSendOf, isSettleOf}
 use Rattle.laws.specs.Link.{Acts, Neither, acts, link-clear, link-drop, link-heap, link-receive, link-send, link-settle, neither}
 use Rattle.laws.specs.Linked.{Linked}
-use Rattle.laws.specs.Reclaimed.{reclaimed-clear}
 use Rattle.laws.specs.ShapeLaws.{Shaped, shaped}
+use Rattle.laws.specs.Starts.{reclaimed-clear}
 use Rattle.laws.specs.TableLaws.{cell-kept, cell-set}
 
 -- a clear directory goes by an act, and where none stands there is none to go
@@ -46,17 +41,9 @@ cleared (AtOwner d) x n clear = acts n (Act.clears clear) refl refl
 cleared (Elsewhere r) x n clear = absurd (false≢true clear)
 
 module _ {t : Table} (formed : Formed t) {p : ℕ} (node : p < NODES) where
-  -- the cell of object o after COLLECT at p
-  abbrev collected : ℕ → Cell → Cell
-  collected o c = cellCollected t p (kept t p) (heldAt t p (kept t p)) o c
-
   -- the table after COLLECT
   abbrev after : Table
-  after = counting t (withCollected t p (kept t p) (heldAt t p (kept t p)))
-
-  -- each object's cell is its own, collected
-  pub cell-after : (o : ℕ) → o < OBJECTS → cellAt after o ≡ collected o (cellAt t o)
-  cell-after o object = getD-list OBJECTS (λ a. collected a (cellAt t a)) o (record { at = [] }) object
+  after = counting t (collected t p)
 
   -- what happens to the entry at p, and to no other
   record Swept (o : ℕ) (ev : Event) (c : Cell) : Type 0 where
@@ -64,30 +51,19 @@ module _ {t : Table} (formed : Formed t) {p : ℕ} (node : p < NODES) where
     own : (x : Message) → Acts o p (entryAt t p o) x (entryIn c p) x (isSendOf o t ev) (isSettleOf o t ev)
 
   -- by what is kept and what is held
-  swept : (o : ℕ) (ev : Event) → o < OBJECTS → Neither o t ev → Swept o ev (collected o (cellAt t o))
-  unfolding cellCollected
-  swept o ev object n = go (ownedBy p o) refl (isReclaimed t p (kept t p) o) refl (holds (heldAt t p (kept t p)) o)
+  swept : (o : ℕ) (ev : Event) → o < OBJECTS → Neither o t ev → Swept o ev (cellAt after o)
+  swept o ev object n = go (cellAt after o) (changed t p o object)
     where
       size : p < length (cellAt t o .at)
       size = omega (arith, formed .entries o object)
 
-      unchanged : Swept o ev (cellAt t o)
-      unchanged = record { others = λ q ne. refl; own = λ x. acts n Act.same refl refl }
-
-      go : (own : Bool) → ownedBy p o ≡ own → (gone : Bool) → isReclaimed t p (kept t p) o ≡ gone → (held : Bool)
-          → Swept o ev (
-          if own
-          then (if gone then cellWith (cellAt t o) p Absent else cellAt t o)
-          else (if held then cellAt t o else cellWith (cellAt t o) p (setUnused (entryAt t p o)))
-          )
-      go true own true gone held = record {
+      go : (c : Cell) → Changed t p o c → Swept o ev c
+      go c (Changed.kept-cell stays) = record { others = λ q ne. refl; own = λ x. acts n Act.same refl refl }
+      go c (Changed.gone-cell gone) = record {
         others = λ q ne. cell-kept (cellAt t o) p q Absent ne;
-        own = λ x. rw (cell-set (cellAt t o) p Absent size)
-            (cleared (entryAt t p o) x n (reclaimed-clear t p o object gone));
+        own = λ x. rw (cell-set (cellAt t o) p Absent size) (cleared (entryAt t p o) x n (reclaimed-clear t p o object gone));
       }
-      go true own false gone held = unchanged
-      go false own gone e true = unchanged
-      go false own gone e false = record {
+      go c (Changed.unused-cell stays away idle) = record {
         others = λ q ne. cell-kept (cellAt t o) p q (setUnused (entryAt t p o)) ne;
         own = λ x. rw (cell-set (cellAt t o) p (setUnused (entryAt t p o)) size) (acts n Act.unused refl refl);
       }
@@ -96,16 +72,14 @@ module _ {t : Table} (formed : Formed t) {p : ℕ} (node : p < NODES) where
   pub link-collect : (e : Event) → e .kind ≡ COLLECT → (o : ℕ) → o < OBJECTS → Linked t e after o
   link-collect e kind o object =
       let sweeping = swept o e object (neither (rw kind) (rw kind)) in
-      let at : (q : ℕ) → entryAt after q o ≡ entryIn (collected o (cellAt t o)) q = λ q. ap (λ (c : Cell). entryIn c q) (cell-after o object) in
-      let here : Acts o p (entryAt t p o) (messageAt t 0) (entryAt after p o) (messageAt t 0) (isSendOf o t e) (isSettleOf o t e) =
-      rw (at p) (sweeping .own (messageAt t 0)) in
+      let here = sweeping .own (messageAt t 0) in
       record {
         change = record {
           node = p;
           node-number = node;
           place = 0;
           place-number = omega arith;
-          entries = λ q _ ne. at q ∙ sweeping .others q ne;
+          entries = λ q _ ne. sweeping .others q ne;
           messages = λ b _ ne. refl;
           act = here .act;
         };

@@ -28,7 +28,7 @@ use Rattle.step.specs.Event.{DROP, SETTLE, event, fitsEvent, kindOf}
 use Rattle.step.specs.Send.{isFull}
 use Rattle.step.specs.Settle.{settleOf}
 use Rattle.step.specs.Step.{ruleFor, ruleOf}
-use Rattle.laws.specs.LawE.{Onward, RefusedOnlyBy, Unused, due, onlyThese}
+use Rattle.laws.specs.LawE.{Droppable, Onward, RefusedOnlyBy, Unused, due, onlyThese}
 use Rattle.laws.specs.CountsKept.{Counted, counted-lawful, counted-within}
 use Rattle.laws.specs.Drained.{due-onward}
 use Rattle.laws.specs.InRange.{settles-at-most}
@@ -64,7 +64,8 @@ module _ (ns : List ℕ) (t : Table) (e : Event) (shape : fitsTable t ≡ true) 
 -- ---- the two events
 
 -- a remote entry that may go: only a place for its decrement may be wanting
-drop-refusals : (t : Table) (p o : ℕ) (e : Entry) → isRemote e ≡ true → mayGo e ≡ true → onlyThese (FULL ∷ ENDED ∷ []) (dropOf t p o e .refusals) ≡ true
+drop-refusals : (t : Table) (p o : ℕ) (e : Entry) → isRemote e ≡ true → mayGo e ≡ true
+    → onlyThese (FULL ∷ ENDED ∷ []) (dropOf t p o e .refusals) ≡ true
 unfolding dropOf onlyThese holds
 drop-refusals t p o Absent remote may = absurd (false≢true remote)
 drop-refusals t p o (AtOwner d) remote may = absurd (false≢true remote)
@@ -93,6 +94,10 @@ module _ (t : Table) (o : ℕ) (shape : fitsTable t ≡ true) (lo : o < OBJECTS)
       common-ended (FULL ∷ ENDED ∷ []) t (event DROP p o 0 0) shape (rw (lt-ltb p NODES lp, lt-ltb o OBJECTS lo)) refl
       (drop-refusals t p o (entryAt t p o) remote may)
 
+  -- so it can be dropped
+  droppable : (p : ℕ) → p < NODES → isRemote (entryAt t p o) ≡ true → mayGo (entryAt t p o) ≡ true → Droppable t o
+  droppable p lp remote may = record { node = p; number = lp; remote = remote; free = drop-free p lp remote may }
+
   module _ (counted : Counted t) where
     -- SETTLE of a decrement of the object
     settle-free : (s : ℕ) → s < PLACES → isDecrementOf o (messageAt t s) ≡ true → RefusedOnlyBy (ENDED ∷ []) t (event SETTLE s 0 0 0)
@@ -100,14 +105,13 @@ module _ (t : Table) (o : ℕ) (shape : fitsTable t ≡ true) (lo : o < OBJECTS)
     settle-free s ls held =
         let few = leb-true (t .count) EVENTS (shaped t shape .count) in
         common-ended (ENDED ∷ []) t (event SETTLE s 0 0 0) shape (rw (lt-ltb s PLACES ls)) refl
-        (settle-refusals t s o (messageAt t s) held
-        (λ q p m w here. settles-at-most t o shape lo (counted-lawful t shape counted o lo) (t .count) few (counted-within t shape counted o lo) s q p m w ls here))
+        (settle-refusals t s o (messageAt t s) held (λ q p m w here.
+        settles-at-most t o shape lo (counted-lawful t shape counted o lo) (t .count) few (counted-within t shape counted o lo) s q p m w ls here))
 
     -- while something is due
     pub onward : Unused t o → 0 < due t o → Onward t o
     onward idle some = record {
-      one-more = ⊎-elim inl
-          (λ leaf. inr (record { node = leaf .0; number = leaf .1; remote = leaf .2 .0; free = drop-free (leaf .0) (leaf .1) (leaf .2 .0) (leaf .2 .1) }))
+      one-more = ⊎-elim inl (λ leaf. inr (droppable (leaf .0) (leaf .1) (leaf .2 .0) (leaf .2 .1)))
           (due-onward t o shape lo (counted-lawful t shape counted o lo) idle some);
       settles = settle-free;
     }
