@@ -17,6 +17,8 @@ use Rattle.laws.specs.LawA.{LawA}
 use Rattle.laws.specs.LawB.{LawB, isHomeward}
 use Rattle.laws.specs.LawC.{LawC}
 use Rattle.laws.specs.Lawful.{rules, share}
+use Rattle.laws.specs.Sequence.{Always}
+use Rattle.laws.specs.SoundKept.{always-sound}
 
 -- references to object o on their way to its owner
 abbrev pub onTheWayHome : Table → ℕ → ℕ
@@ -31,3 +33,8 @@ CountsTheWayHome t =
 pub counts-the-way-home : (t : Table) → fitsTable t ≡ true → LawA t → LawB t → LawC t → CountsTheWayHome t
 counts-the-way-home t shape a b c o lo =
     returns-homeward (rules o) (share t o) (lawful-table t shape a b c o lo) (share-shaped t o shape lo)
+
+-- and in every table that accepted events make
+pub always-counts-the-way-home : Always CountsTheWayHome
+always-counts-the-way-home es t run =
+    let sound = always-sound es t run in counts-the-way-home t (sound .shape) (sound .lawA) (sound .lawB) (sound .lawC)
