@@ -1,9 +1,9 @@
 -- What the return count adds to RC, over any rule set: where the directory's RC is 0, its return count is the number of references on their way
 -- home. Laws A and C alone leave no remote entry and no decrement then, and law B says the rest. Assumes nothing.
 use mathlib.Core.Path.{_≡_, refl, sym, ap₂, _∙_}
-use mathlib.Core.Logic.{inl, inr, ⊎-elim}
+use mathlib.Core.Logic.{_≢_, inl, inr, ⊎-elim}
 use mathlib.Core.Bool.{false}
-use Prim.Native.Nat.{ℕ, _+_}
+use Prim.Native.Nat.{ℕ, _+_, _<_}
 use native.Mathlib.Omega.{arith}
 use Rattle.terms.specs.CountedLaws.{sum-zero}
 use Rattle.counting.specs.Adding.{natural, total-nothing, total-only}
@@ -52,15 +52,27 @@ module _ (R : Rules) (c : Share R) (lawful : Lawful R c) (shaped : Shaped R c) (
         weighty = λ s ls. inr refl;
       }) (record { no-count = no-count; no-return = refl })
 
-  -- so all return counts are the directory's, and law B says how many they are
+  -- so no other entry has a return count, and no message carries one
+  away-nothing : (p : ℕ) → p < R .nodes → p ≢ R .owner → R .returns (c .entry p) ≡ R .numbers .nought
+  away-nothing p lp ne =
+      ⊎-elim
+      (λ hangs. absurd (omega (arith, hangs .2, nobody-counts .no-entry p (hangs .0) lp (hangs .1))))
+      (λ none. none .1)
+      (shaped .away p lp ne)
+
+  carried-nothing : (s : ℕ) → s < R .places → R .carried (c .message s) ≡ R .numbers .nought
+  carried-nothing s ls =
+      ⊎-elim
+      (λ some. absurd (omega (arith, some .2, nobody-counts .no-air s (some .0) ls (some .1))))
+      (λ none. none)
+      (shaped .weighty s ls)
+
+  -- all return counts are the directory's, and law B says how many they are
   pub returns-homeward : R .returns (c .entry (R .owner)) ≡ R .of (homeward R c)
   returns-homeward =
       sym
       (ap₂ (R .numbers .plus)
-      (total-only (R .numbers) (R .nodes) (λ p. R .returns (c .entry p)) (R .owner) (shaped .owner-number)
-      (λ p lp ne. ⊎-elim
-      (λ hangs. absurd (omega (arith, hangs .2, nobody-counts .no-entry p (hangs .0) lp (hangs .1)))) (λ none. none .1) (shaped .away p lp ne)))
-      (total-nothing (R .numbers) (R .places) (λ s. R .carried (c .message s))
-      (λ s ls. ⊎-elim (λ some. absurd (omega (arith, some .2, nobody-counts .no-air s (some .0) ls (some .1)))) (λ none. none) (shaped .weighty s ls)))
+      (total-only (R .numbers) (R .nodes) (λ p. R .returns (c .entry p)) (R .owner) (shaped .owner-number) away-nothing)
+      (total-nothing (R .numbers) (R .places) (λ s. R .carried (c .message s)) carried-nothing)
       ∙ R .numbers .unit _)
       ∙ lawful .lawB
