@@ -38,16 +38,16 @@ Determined {R} Promise = (r s : R) → Promise r → Promise s → r ≡ s
 pub named : {R : Type 0} (definition : R) → Determined (λ r. r ≡ definition)
 named definition r s p q = p ∙ sym q
 
--- what comes back of a call, and the lent buffer afterwards
-pub record Left (R : Type 0) : Type 0 where
+-- what comes back of a call, and what was lent to it, as it is afterwards
+pub record Left (R L : Type 0) : Type 0 where
   pub back : R
-  pub buffer : List ℕ
+  pub lent : L
 
 -- a promise that names both
-pub both-named : {R : Type 0} (definition : R) (bytes : List ℕ) → Determined (λ (l : Left R). (l .back ≡ definition) × (l .buffer ≡ bytes))
-both-named {R} definition bytes r s p q =
-    ap₂ (λ (x : R) (y : List ℕ). record { back = x; buffer = y }) (named definition (r .back) (s .back) (p .0) (q .0))
-    (named bytes (r .buffer) (s .buffer) (p .1) (q .1))
+pub both-named : {R L : Type 0} (definition : R) (after : L) → Determined (λ (l : Left R L). (l .back ≡ definition) × (l .lent ≡ after))
+both-named {R} {L} definition after r s p q =
+    ap₂ (λ (x : R) (y : L). record { back = x; lent = y }) (named definition (r .back) (s .back) (p .0) (q .0))
+    (named after (r .lent) (s .lent) (p .1) (q .1))
 
 -- ---- one event
 
@@ -87,32 +87,32 @@ pub read-determined : (bytes : List ℕ) → Determined (λ (r : Loaded). r ≡ 
 read-determined bytes = named (read bytes)
 
 -- the writer's promise tells answer, length and buffer apart
-pub record Writes (t : Table) (out : List ℕ) (l : Left image.Written) : Type 0 where
+pub record Writes (t : Table) (out : List ℕ) (l : Left image.Written (List ℕ)) : Type 0 where
   pub answer : l .back .answer ≡ writeAnswer t out
   pub length : l .back .length ≡ writeLength t out
-  pub bytes : l .buffer ≡ writeBytes t out
+  pub bytes : l .lent ≡ writeBytes t out
 
 -- `write`: answer, length and bytes
 pub write-determined : (t : Table) (out : List ℕ) → Determined (Writes t out)
 write-determined t out r s p q =
     both-named (record { answer = writeAnswer t out; length = writeLength t out }) (writeBytes t out) r s (whole r p) (whole s q)
   where
-    whole : (l : Left image.Written) → Writes t out l
-        → (l .back ≡ record { answer = writeAnswer t out; length = writeLength t out }) × (l .buffer ≡ writeBytes t out)
+    whole : (l : Left image.Written (List ℕ)) → Writes t out l
+        → (l .back ≡ record { answer = writeAnswer t out; length = writeLength t out }) × (l .lent ≡ writeBytes t out)
     whole l w = (ap₂ (λ (a n : ℕ). record { answer = a; length = n }) (w .answer) (w .length), w .bytes)
 
 -- ---- whole calls
 
 -- `run`: answer, summary and the text's length; and the bytes
-pub run-determined : (input out : List ℕ) → Determined (λ (l : Left Ran). (l .back ≡ ran input out) × (l .buffer ≡ runBytes input out))
+pub run-determined : (input out : List ℕ) → Determined (λ (l : Left Ran (List ℕ)). (l .back ≡ ran input out) × (l .lent ≡ runBytes input out))
 run-determined input out = both-named (ran input out) (runBytes input out)
 
 -- the host call: the number that comes back, and the bytes
 pub host-determined : (old event out : List ℕ)
-    → Determined (λ (l : Left ℕ). (l .back ≡ hostNumber old event out) × (l .buffer ≡ hostBytes old event out))
+    → Determined (λ (l : Left ℕ (List ℕ)). (l .back ≡ hostNumber old event out) × (l .lent ≡ hostBytes old event out))
 host-determined old event out = both-named (hostNumber old event out) (hostBytes old event out)
 
 -- `write_events`: answer, length and bad line; and the bytes
 pub events-determined : (text out : List ℕ)
-    → Determined (λ (l : Left scenario.Written). (l .back ≡ writtenOf text (length out)) × (l .buffer ≡ bufferOf text out))
+    → Determined (λ (l : Left scenario.Written (List ℕ)). (l .back ≡ writtenOf text (length out)) × (l .lent ≡ bufferOf text out))
 events-determined text out = both-named (writtenOf text (length out)) (bufferOf text out)
