@@ -43,6 +43,7 @@ pub mod NotTorn
 pub mod OneMore
 pub mod Passings
 pub mod Presence
+pub mod Promises
 pub mod Sequence
 pub mod ShapeLaws
 pub mod Sound
