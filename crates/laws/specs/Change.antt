@@ -3,7 +3,7 @@
 -- Definitions only; assumes nothing.
 use mathlib.Core.Path.{_≡_}
 use mathlib.Core.Logic.{_≢_}
-use mathlib.Core.Bool.{Bool, true, false, not}
+use mathlib.Core.Bool.{Bool, true, false}
 use Prim.Native.Nat.{ℕ, _<_}
 use lib.Dec.{eqb}
 use Rattle.terms.specs.Limits.{NODES, PLACES}

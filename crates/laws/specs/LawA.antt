@@ -1,7 +1,7 @@
 -- Law A: RC of each entry is what hangs under it (document 01, law A; where document 000, section 4.1, differs, A decides).
 -- Definitions only; assumes nothing.
 use mathlib.Core.Path.{_≡_}
-use mathlib.Core.Bool.{Bool, true, false, not}
+use mathlib.Core.Bool.{not}
 use Prim.Native.Nat.{ℕ, _+_, _<_}
 use lib.Dec.{eqb}
 use Rattle.terms.specs.Choose.{if_then_else_, _and_}

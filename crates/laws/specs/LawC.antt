@@ -1,6 +1,6 @@
 -- Law C: from any remote entry Parent leads to the owner in at most seven steps (document 01, law C). Definitions only; assumes nothing.
 use mathlib.Core.Path.{_≡_}
-use mathlib.Core.Bool.{Bool, false}
+use mathlib.Core.Bool.{false}
 use Prim.Native.Nat.{ℕ, _≤_, _<_}
 use Rattle.terms.specs.Limits.{NODES, OBJECTS, STEPS}
 use Rattle.entry.specs.Entry.{isAbsent}

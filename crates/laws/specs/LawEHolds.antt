@@ -1,4 +1,4 @@
--- Law E holds in every table whose counts are in order, and so always: after any accepted events without a SEND of the object, as many SETTLEs of it
+-- Law E holds in every table whose counts are in order: after any accepted events without a SEND of the object, as many SETTLEs of it
 -- and what is still due are what was due (document 01, law E; PROOF-PLAN, "Law E"). Assumes nothing.
 use mathlib.Core.Path.{_≡_}
 use mathlib.Core.Bool.{true}
@@ -8,18 +8,16 @@ use native.Mathlib.Omega.{arith}
 use Rattle.table.specs.declared.Table.{Table}
 use Rattle.table.specs.Formed.{Formed}
 use Rattle.table.specs.Shape.{fitsTable}
-use Rattle.table.specs.Table.{freshTable}
 use Rattle.step.specs.Step.{step}
 use Rattle.laws.specs.Along.{carried}
-use Rattle.laws.specs.CountsKept.{Counted, counted-fresh, counted-kept, counted-lawful}
+use Rattle.laws.specs.CountsKept.{Counted, counted-kept, counted-lawful}
 use Rattle.laws.specs.DidLaws.{count-after}
 use Rattle.laws.specs.Drained.{due-clear, due-kept, unused-kept}
-use Rattle.laws.specs.Kept.{Keeps, always, always-formed, fresh-shape}
+use Rattle.laws.specs.Kept.{Keeps}
 use Rattle.laws.specs.KeepsShape.{keeps-shape}
 use Rattle.laws.specs.LawE.{LawE, Unused, due}
 use Rattle.laws.specs.LinkCollect.{change}
 use Rattle.laws.specs.OneMore.{onward}
-use Rattle.laws.specs.Sequence.{Always}
 
 -- the counts are in order
 pub record InOrder (t : Table) : Type 0 where
@@ -54,10 +52,3 @@ law-e t formed order o lo idle es u run unsent =
       (λ is-clear. omega (arith, clear .1 is-clear, after .rest), λ all. clear .0 (omega (arith, after .rest))),
       λ less. onward u o (after .order .shape) lo (after .order .counted) (after .idle) (omega (arith, after .rest)),
     )
-
--- law E always holds
-pub always-lawE : Always LawE
-always-lawE es t run = law-e t (always-formed es t run) (always keeps-order fresh es t run)
-  where
-    fresh : InOrder freshTable
-    fresh = record { shape = fresh-shape; counted = counted-fresh fresh-shape }

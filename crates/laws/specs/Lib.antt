@@ -44,6 +44,7 @@ pub mod OnTheWayHome
 pub mod OneMore
 pub mod Passings
 pub mod Presence
+pub mod Promises
 pub mod Sequence
 pub mod ShapeLaws
 pub mod Sound

@@ -1,8 +1,8 @@
 -- Sound: what every accepted event keeps (request P7 of document 02 names the same conditions). Definitions only; assumes nothing.
 use mathlib.Core.Path.{_≡_}
 use mathlib.Core.Logic.{_≢_}
-use mathlib.Core.Bool.{Bool, true, false}
-use Prim.Native.Nat.{ℕ, zero, suc, _+_, _≤_, _<_}
+use mathlib.Core.Bool.{Bool, true}
+use Prim.Native.Nat.{ℕ, suc, _+_, _≤_, _<_}
 use lib.IntN.{ℤ, pos, negsuc}
 use Rattle.terms.specs.Choose.{_and_, _or_}
 use Rattle.terms.specs.Counted.{sum}

@@ -1,47 +1,35 @@
--- Every accepted event keeps Sound, so Sound always holds, from the fresh table on; and with it laws A to D, and that no event is TORN
--- (document 01, "Laws over all accepted sequences", and "from the fresh state it never occurs"). Assumes nothing.
+-- Every accepted event keeps Sound, so Sound always holds, from the fresh table on. Assumes nothing.
 use mathlib.Core.Path.{_≡_, sym}
 use mathlib.Core.Logic.{inl, inr, ⊎-elim}
-use mathlib.Core.Bool.{true, false}
+use mathlib.Core.Bool.{true}
 use Prim.Native.Nat.{ℕ, _<_}
 use Rattle.terms.specs.Limits.{OBJECTS}
-use Rattle.terms.specs.Numbers.{ACCEPTED}
-use Rattle.heap.specs.Heap.{isLive}
 use Rattle.table.specs.declared.Table.{Table}
 use Rattle.table.specs.Formed.{Formed}
 use Rattle.table.specs.Shape.{fitsTable}
-use Rattle.step.specs.Event.{COLLECT, NEW, event}
-use Rattle.step.specs.Outcome.{valueOf}
 use Rattle.step.specs.Step.{step}
-use Rattle.laws.specs.Alive.{law-d}
 use Rattle.laws.specs.ClearLaws.{clear-means-nobody}
-use Rattle.laws.specs.CollectSafe.{collect-safe}
 use Rattle.laws.specs.CountsKept.{Counted, counted-fresh, counted-kept, counted-lawful, counted-within}
 use Rattle.laws.specs.DidLaws.{count-after}
 use Rattle.laws.specs.FreshHeld.{fresh-held}
-use Rattle.laws.specs.FreshNumber.{Unnamed, new-unnamed}
 use Rattle.laws.specs.HeldAfter.{held-after}
 use Rattle.laws.specs.Holding.{WellHeld, sound-held}
 use Rattle.laws.specs.InRange.{receives-in-range, sends-in-range, settles-in-range}
 use Rattle.laws.specs.KeepsShape.{keeps-form, keeps-shape}
 use Rattle.laws.specs.Kept.{Keeps, always, fresh-formed, fresh-shape}
-use Rattle.laws.specs.LawA.{LawA}
-use Rattle.laws.specs.LawB.{LawB}
-use Rattle.laws.specs.LawC.{LawC}
-use Rattle.laws.specs.LawD.{LawD, Used}
 use Rattle.laws.specs.Lawful.{Lawful}
 use Rattle.laws.specs.LinkCollect.{change}
 use Rattle.laws.specs.Nobody.{Bridge}
-use Rattle.laws.specs.NotTorn.{CountsWhole, never-torn}
+use Rattle.laws.specs.NotTorn.{CountsWhole}
 use Rattle.laws.specs.Sequence.{Always}
 use Rattle.laws.specs.ShapeLaws.{reference-way, decrement-way, shaped}
-use Rattle.laws.specs.Sound.{NeverTorn, Sound}
+use Rattle.laws.specs.Sound.{Sound}
 use Rattle.laws.specs.Within.{Within}
 
 -- ---- Sound is the shape, the counts' part and the heap's part
 
 -- the counts' part
-counted-of : {t : Table} → Sound t → Counted t
+pub counted-of : {t : Table} → Sound t → Counted t
 counted-of sound =
     record { lawA = sound .lawA; lawB = sound .lawB; lawC = sound .lawC; counts = sound .counts; returns = sound .returns; owed = sound .owed }
 
@@ -102,45 +90,3 @@ keeps-sound t e formed accepted sound =
 -- Sound always holds
 pub always-sound : Always Sound
 always-sound = always keeps-sound (all-sound fresh-formed fresh-shape (counted-fresh fresh-shape) fresh-held)
-
--- ---- and with it
-
--- law A
-pub always-lawA : Always LawA
-always-lawA es t accepted = always-sound es t accepted .lawA
-
--- law B
-pub always-lawB : Always LawB
-always-lawB es t accepted = always-sound es t accepted .lawB
-
--- law C
-pub always-lawC : Always LawC
-always-lawC es t accepted = always-sound es t accepted .lawC
-
--- law D
-pub always-lawD : Always LawD
-always-lawD es t accepted = let sound = always-sound es t accepted in law-d t (sound .roots) (sound .fields) (sound .references)
-
--- no event is TORN, and none meets a broken shape
-pub always-whole : Always NeverTorn
-always-whole es t accepted = let sound = always-sound es t accepted in never-torn sound (sound-counts sound)
-
--- ---- what the owner of the trees asks for
-
--- an object that an accepted COLLECT reclaims was used by nobody
-abbrev pub CollectSafe : Table → Type 0
-CollectSafe t =
-    (p o : ℕ) → step t (event COLLECT p 0 0 0) .answer ≡ ACCEPTED → isLive (t .heap) o ≡ true
-    → isLive (step t (event COLLECT p 0 0 0) .table .heap) o ≡ false → Used t o → ⊥
-
--- it is so in every table that accepted events make
-pub always-collect-safe : Always CollectSafe
-always-collect-safe es t run p o accepted = let sound = always-sound es t run in collect-safe t p accepted sound (sound-bridge sound) o
-
--- the number that an accepted NEW hands out is named by nothing
-abbrev pub NewFresh : Table → Type 0
-NewFresh t = (p r : ℕ) → step t (event NEW p r 0 0) .answer ≡ ACCEPTED → Unnamed t (valueOf (step t (event NEW p r 0 0) .deed))
-
--- it is so in every table that accepted events make
-pub always-new-fresh : Always NewFresh
-always-new-fresh es t run p r accepted = let sound = always-sound es t run in new-unnamed t p r accepted sound (sound-bridge sound)
