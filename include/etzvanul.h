@@ -89,7 +89,8 @@ enum etzvanul_answer_number {
     ETZVANUL_OK = 0,
 
     /* The event is refused. */
-    ETZVANUL_SHAPE = 1,    /* the table holds numbers out of range: never given by the calls below, since no such image is read */
+    ETZVANUL_SHAPE = 1,    /* the table holds numbers out of range: never comes back from etzvanul_step, nor from
+                              the other calls, since no such image is read */
     ETZVANUL_EVENT = 2,    /* not one record of 8 bytes, unknown kind, operand out of its range, or unused operand not 0 */
     ETZVANUL_ENDED = 3,    /* ETZVANUL_LAST_EVENT events have been accepted */
     ETZVANUL_NOMSG = 4,    /* RECEIVE: no reference in place s; SETTLE: no decrement in place s */
@@ -135,7 +136,8 @@ uint64_t etzvanul_step(const uint8_t *image, size_t image_len, const uint8_t *ev
 uint64_t etzvanul_fresh(uint8_t *out, size_t out_len);
 
 /*
- * How many steps a node's entry of an object is away from the object's owner, along the nodes that it was received from.
+ * How many steps a node's entry of an object is away from the object's owner: from each node to the one that it first received the
+ * object from, its Parent.
  *
  * Returns answer + 256 * depth; take it apart with etzvanul_answer and etzvanul_value. An image that is refused gives its answer, 20 to
  * 25, and depth 0. Otherwise the answer is 0 and the depth is 0 at the owner, 1 to 7 elsewhere, and ETZVANUL_NOTHING if the
