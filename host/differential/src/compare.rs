@@ -50,7 +50,8 @@ impl Comparer {
         // The compiler takes it for granted that lent bytes stay, so it has to be told to look again.
         let inputs_stay = *black_box(&mut lent_image) == image && *black_box(&mut lent_event) == event;
         if !inputs_stay || (expected, &expected_buffer) != (got, &got_buffer) {
-            let input = format!("step\nimage   {}\nevent   {}\nbefore  {}", hex(image), hex(event), hex(before));
+            let call = if inputs_stay { "step" } else { "step, and the archive wrote to its inputs" };
+            let input = format!("{call}\nimage   {}\nevent   {}\nbefore  {}", hex(image), hex(event), hex(before));
             self.differ(&input, (expected, &expected_buffer), (got, &got_buffer));
         }
         self.comparisons += 1;
@@ -99,11 +100,18 @@ impl Comparer {
     pub fn differ(&self, input: &str, expected: (u64, &[u8]), got: (u64, &[u8])) -> ! {
         println!("DIFFERENCE in {}, seed {}, after {} comparisons that agreed", self.part, self.seed, self.comparisons);
         println!("call    {input}");
-        println!("buffers are shown with {GUARD} guard bytes on either side");
-        println!("model   {:#x} {}", expected.0, hex(expected.1));
-        println!("archive {:#x} {}", got.0, hex(got.1));
+        println!("model   {} {}", in_parts(expected.0), hex(expected.1));
+        println!("archive {} {}", in_parts(got.0), hex(got.1));
+        if let Some(at) = expected.1.iter().zip(got.1).position(|(one, other)| one != other) {
+            println!("the buffers, shown with {GUARD} guard bytes on either side, differ first at byte {at}");
+        }
         std::process::exit(1);
     }
+}
+
+/// The parts of a call's number.
+fn in_parts(number: u64) -> String {
+    format!("answer {} value {} length {}", number & 0xFF, number >> 8 & 0xFFFF, number >> 24)
 }
 
 /// The number of a call, and its buffer after it with the guard bytes around.
