@@ -4,9 +4,10 @@
  * Up to eight controllers (nodes) share a field. Each owns eight objects, its watering programs, and may hold references to the objects
  * of others. The field table keeps account of who holds what, so that an object's place is used again only when nobody holds it.
  *
- * The table lives in the host's memory or file as an image: a string of bytes. A call takes an image and one event and writes the image
- * after the event. The archive libetzvanul.a is proved to do this as document 01 lays down, for every image and every event, damaged
- * ones included: there is no input that it fails on, only inputs that it refuses.
+ * The table lives in the host's memory or file as an image: a string of bytes, the same on every machine, that may be stored and sent as
+ * it is. A call takes an image and one event and writes the image after the event. The archive libetzvanul.a is proved to do this as
+ * document 01 lays down, for every image and every event, damaged ones included: there is no input that it fails on, only inputs that it
+ * refuses.
  *
  *     uint8_t now[ETZVANUL_LARGEST_BYTES], next[ETZVANUL_LARGEST_BYTES], event[ETZVANUL_EVENT_BYTES];
  *     size_t length = etzvanul_length(etzvanul_fresh(now, sizeof now));
@@ -31,7 +32,7 @@
  *   - Every call returns, and the same bytes give the same result: nothing is kept between calls.
  *   - All functions are reentrant: threads and interrupt handlers may call them at the same time, each with a buffer of its own.
  *   - Refused, nothing is written. Accepted, only as many bytes of out are written as the result's length says; the rest stay.
- *   - A call uses at most ETZVANUL_STACK_BYTES of stack.
+ *   - A call uses at most ETZVANUL_STACK_BYTES of stack: measured, not proved.
  */
 #ifndef ETZVANUL_H
 #define ETZVANUL_H
@@ -48,8 +49,8 @@ extern "C" {
 #define ETZVANUL_FRESH_BYTES 116
 #define ETZVANUL_LARGEST_BYTES 11508
 
-/* TO BE MEASURED with host/stack_use, which tests/host runs: the bytes of stack that a call uses at most. */
-#define ETZVANUL_STACK_BYTES 0
+/* The bytes of stack that a call uses at most, as host/stack_use.c measures it. */
+#define ETZVANUL_STACK_BYTES 0 /* TO BE FILLED IN with what tests/host measures on the verified archive, rounded up */
 
 /* The field. Nodes, objects, roots, fields and message places are numbered from 0; object o belongs to node o / 8. */
 #define ETZVANUL_NODES 8

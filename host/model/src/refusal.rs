@@ -1,4 +1,4 @@
-//! The refusals and their numbers.
+//! The refusals and their numbers. The names are document 01's, written out.
 
 /// Why an event, a read or a write was refused.
 #[derive(Clone, Copy, Debug, PartialEq, Eq)]
