@@ -57,12 +57,25 @@ pub fn made_by_hand(random: &mut Random, percent: usize) -> Table {
             }
         }
     }
+    put_messages(random, &mut table, percent);
+    table
+}
+
+/// Some tables have every place taken, since what is refused for want of a place is seen only there.
+fn put_messages(random: &mut Random, table: &mut Table, percent: usize) {
+    let percent = if random.chance(20) { 100 } else { percent };
+    let remotes: Vec<(u8, u8)> = table.remotes.keys().copied().collect();
     for place in 0..PLACES {
         if random.chance(percent) {
-            table.messages.insert(place, some_message(random));
+            let mut message = some_message(random);
+            // Half of the messages are about an entry that is there, and from its parent.
+            if !remotes.is_empty() && random.chance(50) {
+                let (node, object) = random.pick(&remotes);
+                message = Message { from: table.remotes[&(node, object)].parent, to: node, object, ..message };
+            }
+            table.messages.insert(place, message);
         }
     }
-    table
 }
 
 /// Every record that an image can have.
