@@ -3,7 +3,7 @@
 use crate::choose::{likely_event, record, wild_event, Weights, EDGE_BYTES, KINDS};
 use crate::compare::{Comparer, LARGEST};
 use crate::random::Random;
-use crate::tables::{grown, image_of, made_by_hand};
+use crate::tables::{chained, grown, image_of, made_by_hand};
 use field_model::limits::{NODES, OBJECTS};
 use field_model::reader::read;
 use field_model::table::Table;
@@ -127,7 +127,11 @@ pub fn event_records(comparer: &mut Comparer, random: &mut Random, _scale: usize
 /// Depths of all nodes and objects, and of numbers outside.
 pub fn depths(comparer: &mut Comparer, random: &mut Random, scale: usize) {
     for index in 0..14 * scale {
-        let table = if index % 2 == 0 { grown(random, 300) } else { made_by_hand(random, [10, 30, 60, 95][index / 2 % 4]) };
+        let table = match index % 3 {
+            0 => grown(random, 300),
+            1 => made_by_hand(random, [10, 30, 60, 95][index / 3 % 4]),
+            _ => chained(random),
+        };
         let image = image_of(&table);
         for node in 0..=NODES {
             for object in 0..=OBJECTS {

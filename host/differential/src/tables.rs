@@ -78,6 +78,31 @@ fn put_messages(random: &mut Random, table: &mut Table, percent: usize) {
     }
 }
 
+/// For every object a chain through all nodes, the owner at its end; here and there the directory or a link is missing, or a link turned
+/// so that a ring may come of it.
+pub fn chained(random: &mut Random) -> Table {
+    let mut table = Table::fresh();
+    for object in 0..OBJECTS {
+        let step = random.pick(&[1, 3, 5, 7]);
+        let mut node = owner_of(object);
+        if random.chance(90) {
+            table.directories.insert(object, some_directory(random));
+        }
+        for _ in 1..NODES {
+            let parent = node;
+            node = (node + step) % NODES;
+            let mut remote = Remote { parent, ..some_remote(random, node) };
+            if random.chance(3) {
+                remote.parent = another_node(random, node);
+            }
+            if random.chance(98) {
+                table.remotes.insert((node, object), remote);
+            }
+        }
+    }
+    table
+}
+
 /// Every record that an image can have.
 pub fn largest(random: &mut Random) -> Table {
     let mut table = made_by_hand(random, 100);
