@@ -6,6 +6,7 @@ use crate::damage::{records_of, some_record, some_records, swapped, with_record,
 use crate::event_parts::CLEAR_0_0;
 use crate::random::Random;
 use crate::tables::{grown, image_of, largest, made_by_hand};
+use field_model::limits::LIMIT;
 use field_model::table::Table;
 use host_cases::stored_cases;
 
@@ -74,6 +75,22 @@ pub fn changed_bytes(comparer: &mut Comparer, random: &mut Random, scale: usize)
         image[at] = random.byte();
         comparer.check(&image);
         image[at] = was;
+    }
+}
+
+/// Images with numbers at and past the limits written over any four bytes, so that every count of every record is met.
+pub fn edge_numbers(comparer: &mut Comparer, random: &mut Random, scale: usize) {
+    let limit = LIMIT as i32;
+    for _ in 0..scale {
+        for image in small_images(random) {
+            for at in 4..=image.len() - 4 {
+                for number in [-1, limit - 1, limit, limit + 1, -limit, -limit - 1, i32::MIN, i32::MAX] {
+                    let mut changed = image.clone();
+                    changed[at..at + 4].copy_from_slice(&number.to_le_bytes());
+                    comparer.step(&changed, &CLEAR_0_0, LARGEST);
+                }
+            }
+        }
     }
 }
 

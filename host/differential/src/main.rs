@@ -27,7 +27,7 @@ const DEFAULT_SEED: u64 = 1;
 
 type Part = fn(&mut Comparer, &mut Random, usize);
 
-const PARTS: [(&str, Part); 13] = [
+const PARTS: [(&str, Part); 14] = [
     ("stored calls", image_parts::stored),
     ("fresh images", image_parts::fresh_images),
     ("long runs", event_parts::long_runs),
@@ -38,6 +38,7 @@ const PARTS: [(&str, Part); 13] = [
     ("depths", event_parts::depths),
     ("cut images", image_parts::cut_images),
     ("changed bytes", image_parts::changed_bytes),
+    ("edge numbers", image_parts::edge_numbers),
     ("moved records", image_parts::moved_records),
     ("random bytes", image_parts::random_bytes),
     ("buffers", image_parts::buffers),
