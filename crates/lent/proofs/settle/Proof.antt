@@ -24,7 +24,7 @@ use types.Part.{whole, sub, look-in}
 use types.SemTy.{Body}
 use sound.WpLaws.{FmC, fmOf, WpFn-mono}
 use denote.RattleType.{owns}
-use denote.Laws.{Is, shows, Makes, Lawful}
+use denote.Laws.{Is, shows}
 use denote.Memory.{mem}
 use denote.Plain.{uint-makes}
 use denote.Builtin.{u8}
@@ -32,8 +32,6 @@ use denote.Ref.{RefT, MutRef, ptr-vals, mut-tells}
 use denote.Signature.{plain}
 use denote.Steps.{only, opens, closes, owned, peeks, heard, nothing}
 use denote.Struct.Steps.{spelt}
-use denote.Struct.Laws as LL
-use denote.Enum.Laws as EL
 use denote.Triple.Statement.{Contract, Triple}
 use denote.Triple.Call.{calls-at}
 use denote.Triple.Clauses.{Clauses, ensured, lasts}
@@ -47,14 +45,13 @@ use Rattle.entry.specs.declared.Weight.{Weight}
 use Rattle.entry.specs.declared.Entry.{Entry}
 use Rattle.entry.specs.declared.EntryAct.{EntryAct}
 use Rattle.entry.proofs.ReturnCount as R
-use Rattle.entry.proofs.ReturnCount.Laws as R′
 use Rattle.entry.proofs.Weight as N
-use Rattle.entry.proofs.Weight.Laws as N′
 use Rattle.entry.proofs.Entry as E
-use Rattle.entry.proofs.Entry.Laws as E′
 use Rattle.entry.proofs.EntryAct as Act
 use Rattle.entry.proofs.EntryAct.Laws as Act′
 use Rattle.lent.specs.Lent.{lent}
+use Rattle.lent.proofs.Values.{entry-vals, returns-vals, weight-vals, IsEntry, IsReturns, IsWeight, entry-tells, returns-tells, weight-tells, act-tells, act-number, act-entry}
+use Rattle.lent.proofs.Values.{entry-makes, returns-makes, weight-makes, entry-lawful, returns-lawful, weight-lawful, act-lawful}
 use Rattle.lent.proofs.settled as settled
 use Rattle.lent.proofs.settled.Symbol as settled-def
 use Rattle.lent.proofs.settled.Symbol.{name as #settled}
@@ -64,60 +61,11 @@ use Rattle.lent.proofs.settle as settle
 use Rattle.lent.proofs.settle.Statement as stated
 use Rattle.lent.proofs.settle.Code as code
 
--- ---- the values: how the machine spells each, and what is known of one so spelled
-
-abbrev entry-vals : Entry → List Val
-entry-vals = EL.vals E.the-type E′.the-laws
-
-abbrev returns-vals : ReturnCount → List Val
-returns-vals = LL.vals R.the-type R′.the-laws
-
-abbrev weight-vals : Weight → List Val
-weight-vals = LL.vals N.the-type N′.the-laws
-
-abbrev IsEntry : Entry → Type 0
-IsEntry e = Is E.the-row e (entry-vals e)
-
-abbrev IsReturns : ReturnCount → Type 0
-IsReturns m = Is R.the-row m (returns-vals m)
-
-abbrev IsWeight : Weight → Type 0
-IsWeight n = Is N.the-row n (weight-vals n)
-
--- an act's number is a byte, and its entry an entry
-act-number : (a : EntryAct) (vs : List Val) → Is Act.the-row a vs → a .refusal < 2 ^ 8
-act-number a vs is = LL.owed Act.the-type Act′.the-laws a vs is .0 .1
-
-act-entry : (a : EntryAct) (vs : List Val) → Is Act.the-row a vs → IsEntry (a .entry)
-act-entry a vs is = LL.owed Act.the-type Act′.the-laws a vs is .1 .0
-
 -- the entry is still owned at exit; the two numbers are copies
 abbrev stayed : Stays (settle.ended .signature .params) (settle.ended .kept)
 stayed = (stay-ref (0 ∷ []) tt (plain (λ _. E.the-row)), (stay-none (λ _. R.the-row) yes, (stay-none (λ _. N.the-row) yes, tt)))
 
 module _ {M : Type 1} (𝓤 : URA M) (H : Heap 𝓤) (A : Atoms 𝓤) (W : Given 𝓤 H A) (at-mem : Memory → SProp 𝓤) (run : Routine → Fun 𝓤) where
-  -- an entry, a return count and a weight own facts alone, and their machine values have their types
-  abbrev entry-makes : Makes 𝓤 H A E.the-row (Is E.the-row)
-  entry-makes = EL.makes E.the-type E′.the-plain 𝓤 H A
-
-  abbrev returns-makes : Makes 𝓤 H A R.the-row (Is R.the-row)
-  returns-makes = LL.makes R.the-type R′.the-plain 𝓤 H A
-
-  abbrev weight-makes : Makes 𝓤 H A N.the-row (Is N.the-row)
-  weight-makes = LL.makes N.the-type N′.the-plain 𝓤 H A
-
-  abbrev entry-lawful : Lawful 𝓤 H A E.the-row
-  entry-lawful = EL.lawful E.the-type E′.the-laws 𝓤 H A W tt
-
-  abbrev returns-lawful : Lawful 𝓤 H A R.the-row
-  returns-lawful = LL.lawful R.the-type R′.the-laws 𝓤 H A W
-
-  abbrev weight-lawful : Lawful 𝓤 H A N.the-row
-  weight-lawful = LL.lawful N.the-type N′.the-laws 𝓤 H A W
-
-  abbrev act-lawful : Lawful 𝓤 H A Act.the-row
-  act-lawful = LL.lawful Act.the-type Act′.the-laws 𝓤 H A W
-
   -- the two contracts: the one cited, and the one walked to
   abbrev Settled : Contract 𝓤
   Settled = tripleOf 𝓤 H A settled.signature (settled.spec 𝓤 H A at-mem run)
@@ -147,8 +95,8 @@ module _ {M : Type 1} (𝓤 : URA M) (H : Heap 𝓤) (A : Atoms 𝓤) (W : Given
         (vint w8 (a .refusal)) (a .refusal) (a .entry, (tt, (tt, tt))) (tt, (tt, (tt, tt)))) $
         says ! (ap (λ (c : EntryAct). c .refusal) is, ap (λ (c : EntryAct). c .entry) is) $ nothing ! $ move ! (3 ∷ 0 ∷ []) $ join ! $ frame ! $
         feqI ! (List Val) (vptr b o ∷ []) (vptr b o ∷ []) refl $ fjoin3 ! $
-        nothing ! $ owned ! N.the-row (Is N.the-row) weight-makes n _ n-is $ fjoin ! $
-        owned ! R.the-row (Is R.the-row) returns-makes m _ m-is $ fjoin ! $
+        nothing ! $ owned ! N.the-row (Is N.the-row) (weight-makes 𝓤 H A) n _ n-is $ fjoin ! $
+        owned ! R.the-row (Is R.the-row) (returns-makes 𝓤 H A) m _ m-is $ fjoin ! $
         move ! (1 ∷ 0 ∷ []) $ fjoin ! $ frame ! $ owned ! u8 (Is u8) (uint-makes 𝓤 H A W w8) (a .refusal) _ (refl, byte) $ done !
 
     -- what the triple of `settled` binds outside, what it asks, and what it ensures
@@ -158,9 +106,9 @@ module _ {M : Type 1} (𝓤 : URA M) (H : Heap 𝓤) (A : Atoms 𝓤) (W : Given
     asked : IsEntry e → ent 𝓤 (emp 𝓤) (Settled .pre handed)
     asked e-is =
         qed W [] ∵
-        nothing ! $ owned ! N.the-row (Is N.the-row) weight-makes n _ n-is $ fjoin ! $
-        owned ! R.the-row (Is R.the-row) returns-makes m _ m-is $ fjoin ! $
-        owned ! E.the-row (Is E.the-row) entry-makes e _ e-is $ fjoin ! $ nothing ! $ join ! $ frame ! $ done !
+        nothing ! $ owned ! N.the-row (Is N.the-row) (weight-makes 𝓤 H A) n _ n-is $ fjoin ! $
+        owned ! R.the-row (Is R.the-row) (returns-makes 𝓤 H A) m _ m-is $ fjoin ! $
+        owned ! E.the-row (Is E.the-row) (entry-makes 𝓤 H A) e _ e-is $ fjoin ! $ nothing ! $ join ! $ frame ! $ done !
 
     abbrev Ensured : EntryAct → SProp 𝓤
     Ensured a = ensured 𝓤 H A settled.ended (settled.clauses 𝓤 H A at-mem run) tt (e, (m, (n, tt))) tt a
@@ -177,15 +125,15 @@ module _ {M : Type 1} (𝓤 : URA M) (H : Heap 𝓤) (A : Atoms 𝓤) (W : Given
           -- [obs; the borrow; the token; what m and n own; true]
           enter ! C Λ code.function _ _ $
           alloc1 ! (λ l₀. alloc1 ! (λ l₁. alloc1 ! (λ l₂. alloc1 ! (λ l₃. alloc1 ! (λ l₄. alloc1 ! (λ l₅. alloc0 ! $ params1 ! $
-          pass1 ! (init ! 8 refl (tt, tt)) $ pass1 ! (init ! 6 refl (returns-lawful .typed m _ m-is .0)) $
-          pass1 ! (init ! 4 refl (weight-lawful .typed n _ n-is .0)) $ pass0 ! $
+          pass1 ! (init ! 8 refl (tt, tt)) $ pass1 ! (init ! 6 refl (returns-lawful 𝓤 H A W .typed m _ m-is .0)) $
+          pass1 ! (init ! 4 refl (weight-lawful 𝓤 H A W .typed n _ n-is .0)) $ pass0 ! $
           -- the borrow is opened
           move ! (12 ∷ 13 ∷ 14 ∷ []) $ opens ! tt E.the-row {h = e} b o (λ vs.
-          spelt ! E.the-row (Is E.the-row) (shows 𝓤 H A E.the-row) entry-vals (EL.tells E.the-type E′.the-laws) fullShare e vs b o $
+          spelt ! E.the-row (Is E.the-row) (shows 𝓤 H A E.the-row) entry-vals entry-tells fullShare e vs b o $
           move ! (1 ∷ []) $ peeks ! E.the-row (Is E.the-row) (shows 𝓤 H A E.the-row) e (entry-vals e) (λ e-is. drop ! $
           -- [the entry's cell; the open borrow; obs; auth; _5; …; _4; …; _3; …; _2; …; _1; …; room for _0; …]
           assigns ! (of-opd ! (load ! (from ! (hop ! (look ! 12 refl) (stop !))) (look-raw ! 0 refl))) (from ! (stop !))
-          (init ! 4 refl (entry-lawful .typed e _ e-is .0)) $
+          (init ! 4 refl (entry-lawful 𝓤 H A W .typed e _ e-is .0)) $
           -- the copy is handed to `settled`, and the act comes back
           use0 W (raw (Settled .pre handed)) (asked e-is) $
           calls-at ! fm Settled known handed
@@ -195,15 +143,15 @@ module _ {M : Type 1} (𝓤 : URA M) (H : Heap 𝓤) (A : Atoms 𝓤) (W : Given
           await ! tt $ pick ! (λ a.
           split ! $ move ! (1 ∷ []) $ use1 W (raw (fact 𝓤 (a ≡ lent e m n))) (told a) $ heard ! (a ≡ lent e m n) (λ is. split ! $ drop ! $
           peeks ! Act.the-row (Is Act.the-row) (shows 𝓤 H A Act.the-row) a (v ∷ []) (λ a-is. drop ! $
-          land ! (from ! (stop !)) (init ! 6 refl (act-lawful .typed a _ a-is .0)) $
-          rewrite ! 6 (λ (u : Val). ‵ (fat fullShare Act′.mir l₄ 0 u)) (ap only (LL.tells Act.the-type Act′.the-laws a (v ∷ []) a-is)) refl $
+          land ! (from ! (stop !)) (init ! 6 refl (act-lawful 𝓤 H A W .typed a _ a-is .0)) $
+          rewrite ! 6 (λ (u : Val). ‵ (fat fullShare Act′.mir l₄ 0 u)) (ap only (act-tells a (v ∷ []) a-is)) refl $
           -- its entry is stored back, and its number is the result
           assigns ! (of-opd ! (load ! (from ! (fld ! refl (stop !))) (look-in ! 6 (sub ! 1 refl (whole !)))))
-          (from ! (hop ! (look ! 12 refl) (stop !))) (store-raw ! 0 refl (entry-lawful .typed (a .entry) _ (act-entry a _ a-is) .0)) $
+          (from ! (hop ! (look ! 12 refl) (stop !))) (store-raw ! 0 refl (entry-lawful 𝓤 H A W .typed (a .entry) _ (act-entry a _ a-is) .0)) $
           assigns ! (of-opd ! (load ! (from ! (fld ! refl (stop !))) (look-in ! 6 (sub ! 0 refl (whole !))))) (from ! (stop !))
           (init ! 14 refl (tt, record { fits = act-number a _ a-is })) $
           -- the borrow is closed, and the locals go
-          owned ! E.the-row (Is E.the-row) entry-makes (a .entry) _ (act-entry a _ a-is) $ move ! (1 ∷ 0 ∷ []) $
+          owned ! E.the-row (Is E.the-row) (entry-makes 𝓤 H A) (a .entry) _ (act-entry a _ a-is) $ move ! (1 ∷ 0 ∷ []) $
           closes ! tt E.the-row (a .entry) (entry-vals (a .entry)) b o $
           returns ! (look ! 13 refl) $ forget ! 3 refl $ forget ! 5 refl $ forget ! 7 refl $ forget ! 9 refl $ forget ! 11 refl $ forget ! 13 refl $
           move ! (13 ∷ 14 ∷ []) $ free1 ! $ move ! (11 ∷ 12 ∷ []) $ free1 ! $ move ! (9 ∷ 10 ∷ []) $ free1 ! $
@@ -223,7 +171,7 @@ module _ {M : Type 1} (𝓤 : URA M) (H : Heap 𝓤) (A : Atoms 𝓤) (W : Given
     walks : Walks 𝓤 H A settle.ended stayed runs-code clauses
     walks =
         walked 𝓤 H A settle.ended stayed clauses runs-code (λ κs. (ptr-vals, (returns-vals, (weight-vals, tt))))
-        (λ κs. (mut-tells (named 0) (κs .0) E.the-row, (LL.tells R.the-type R′.the-laws, (LL.tells N.the-type N′.the-laws, tt))))
+        (λ κs. (mut-tells (named 0) (κs .0) E.the-row, (returns-tells, (weight-tells, tt))))
         (λ κs qs bounds a _ are. via 𝓤 _ (fst∗ 𝓤 _ (emp 𝓤))
         (walk (κs .0) (qs .0) (a .0 .ptr .0) (a .0 .ptr .1) (a .0 .name) (a .0 .now) (a .1 .0) (a .1 .1 .0) (are .1 .0) (are .1 .1 .0)
         (𝓣 .C) (𝓣 .Λ) (fmOf 𝓤 H (W .laws) 𝓣) known))
