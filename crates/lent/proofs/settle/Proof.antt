@@ -50,7 +50,8 @@ use Rattle.entry.proofs.Entry as E
 use Rattle.entry.proofs.EntryAct as Act
 use Rattle.entry.proofs.EntryAct.Laws as Act′
 use Rattle.lent.specs.Lent.{lent}
-use Rattle.lent.proofs.Values.{entry-vals, returns-vals, weight-vals, IsEntry, IsReturns, IsWeight, entry-tells, returns-tells, weight-tells, act-tells, act-number, act-entry}
+use Rattle.lent.proofs.Values.{entry-vals, returns-vals, weight-vals, IsEntry, IsReturns, IsWeight}
+use Rattle.lent.proofs.Values.{entry-tells, returns-tells, weight-tells, act-tells, act-number, act-entry}
 use Rattle.lent.proofs.Values.{entry-makes, returns-makes, weight-makes, entry-lawful, returns-lawful, weight-lawful, act-lawful}
 use Rattle.lent.proofs.settled as settled
 use Rattle.lent.proofs.settled.Symbol as settled-def

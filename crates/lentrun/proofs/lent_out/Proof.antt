@@ -51,7 +51,8 @@ use Rattle.entry.proofs.Entry as E
 use Rattle.entry.proofs.Entry.Laws as E′
 use Rattle.entry.proofs.EntryAct as Act
 use Rattle.lent.specs.Lent.{lent}
-use Rattle.lent.proofs.Values.{entry-vals, returns-vals, weight-vals, act-vals, IsEntry, IsReturns, IsWeight, IsAct, entry-tells, returns-tells, weight-tells, act, act-is}
+use Rattle.lent.proofs.Values.{entry-vals, returns-vals, weight-vals, act-vals, IsEntry, IsReturns, IsWeight, IsAct}
+use Rattle.lent.proofs.Values.{entry-tells, returns-tells, weight-tells, act, act-is}
 use Rattle.lent.proofs.Values.{entry-makes, returns-makes, weight-makes, act-makes, entry-lawful, returns-lawful, weight-lawful, act-lawful}
 use Rattle.lent.proofs.settle as settle
 use Rattle.lent.proofs.settle.Symbol as settle-def
@@ -81,11 +82,13 @@ module _ {M : Type 1} (𝓤 : URA M) (H : Heap 𝓤) (A : Atoms 𝓤) (W : Given
   lies : (e : Entry) (l : ℕ) → IsEntry e → ent 𝓤 (sem 𝓤 H A (cell e l)) (sem 𝓤 H A (mem E.the-row .lies e l 0))
   unfolding partOf
   lies e l is =
-      qed W (‵ (cell e l) ∷ []) ∵ use1 W (‵ (cellAt fullShare (E.the-row .mir) (entry-vals e) l 0)) (W .laws .at-raw fullShare E′.mir l 0 (only (entry-vals e))) $
+      qed W (‵ (cell e l) ∷ []) ∵
+      use1 W (‵ (cellAt fullShare (E.the-row .mir) (entry-vals e) l 0)) (W .laws .at-raw fullShare E′.mir l 0 (only (entry-vals e))) $
       owned ! E.the-row (Is E.the-row) (entry-makes 𝓤 H A) e _ is $ move ! (1 ∷ 0 ∷ []) $ fjoin ! $
       fpack ! (List Val) (λ us. fsep (cellAt fullShare (E.the-row .mir) us l 0) (E.the-row .own e us)) (entry-vals e) $ done !
 
-  lay : (e : Entry) (l : ℕ) → ent 𝓤 (sem 𝓤 H A (mem E.the-row .lies e l 0)) (sep 𝓤 (sem 𝓤 H A (cell e l)) (sem 𝓤 H A (E.the-row .own e (entry-vals e))))
+  lay : (e : Entry) (l : ℕ) → ent 𝓤 (sem 𝓤 H A (mem E.the-row .lies e l 0))
+      (sep 𝓤 (sem 𝓤 H A (cell e l)) (sem 𝓤 H A (E.the-row .own e (entry-vals e))))
   unfolding partOf
   lay e l =
       qed W (‵ (mem E.the-row .lies e l 0) ∷ []) ∵ fpick ! (λ vs. fsplit ! $
@@ -105,9 +108,11 @@ module _ {M : Type 1} (𝓤 : URA M) (H : Heap 𝓤) (A : Atoms 𝓤) (W : Given
     exits : (a : EntryAct) → IsAct a → a ≡ lent e m n → ent 𝓤 (emp 𝓤) (Post (only (act-vals a)))
     exits a a-is is =
         qed W [] ∵
-        suffices ! _ (ends-at 𝓤 H A out.ended stayed clauses W ((tt, tt, tt, x, at), tt) (only (act-vals a)) a (tt, (tt, (tt, tt))) (tt, (tt, (tt, tt)))) $
+        suffices ! _
+        (ends-at 𝓤 H A out.ended stayed clauses W ((tt, tt, tt, x, at), tt) (only (act-vals a)) a (tt, (tt, (tt, tt))) (tt, (tt, (tt, tt)))) $
         says ! is $ owned ! Act.the-row (Is Act.the-row) (act-makes 𝓤 H A) a _ a-is $ nothing ! $
-        owned ! N.the-row (Is N.the-row) (weight-makes 𝓤 H A) n _ n-is $ fjoin ! $ owned ! R.the-row (Is R.the-row) (returns-makes 𝓤 H A) m _ m-is $ fjoin ! $
+        owned ! N.the-row (Is N.the-row) (weight-makes 𝓤 H A) n _ n-is $ fjoin ! $
+        owned ! R.the-row (Is R.the-row) (returns-makes 𝓤 H A) m _ m-is $ fjoin ! $
         owned ! E.the-row (Is E.the-row) (entry-makes 𝓤 H A) e _ e-is $ fjoin ! $ nothing ! $ done !
 
     module _ (l ν : ℕ) (γ : GName) where
@@ -144,15 +149,18 @@ module _ {M : Type 1} (𝓤 : URA M) (H : Heap 𝓤) (A : Atoms 𝓤) (W : Given
           (WpFn 𝓤 H C Λ code.function (only (entry-vals e) ∷ only (returns-vals m) ∷ only (weight-vals n) ∷ []) Post)
       walk =
           qed W (‵ ftrue ∷ ‵ (owns (E.the-row ∷ R.the-row ∷ N.the-row ∷ []) x at) ∷ []) ∵ enter ! C Λ code.function _ _ $
-          alloc1 ! (λ l₀. alloc1 ! (λ l₁. alloc1 ! (λ l₂. alloc1 ! (λ l₃. alloc1 ! (λ l₄. alloc1 ! (λ l₅. alloc1 ! (λ l₆. alloc1 ! (λ l₇. alloc0 ! $ params1 ! $
+          alloc1 ! (λ l₀. alloc1 ! (λ l₁. alloc1 ! (λ l₂. alloc1 ! (λ l₃. alloc1 ! (λ l₄.
+          alloc1 ! (λ l₅. alloc1 ! (λ l₆. alloc1 ! (λ l₇. alloc0 ! $ params1 ! $
           pass1 ! (init ! 12 refl (entry-lawful 𝓤 H A W .typed e _ e-is .0)) $ pass1 ! (init ! 10 refl (returns-lawful 𝓤 H A W .typed m _ m-is .0)) $
           pass1 ! (init ! 8 refl (weight-lawful 𝓤 H A W .typed n _ n-is .0)) $ pass0 ! $
           -- the entry is copied to the local that is lent, and its address taken
-          assigns ! (of-opd ! (load ! (from ! (stop !)) (look ! 12 refl))) (from ! (stop !)) (init ! 6 refl (entry-lawful 𝓤 H A W .typed e _ e-is .0)) $
+          assigns ! (of-opd ! (load ! (from ! (stop !)) (look ! 12 refl))) (from ! (stop !))
+          (init ! 6 refl (entry-lawful 𝓤 H A W .typed e _ e-is .0)) $
           assigns ! (addr ! (from ! (stop !))) (from ! (stop !)) (init ! 2 refl (tt, tt)) $
           -- it is lent for a lifetime ν of the call
           lft-new ! tt (λ ν. move ! (7 ∷ []) $ use1 W (‵ (mem E.the-row .lies e l₄ 0)) (lies e l₄ e-is) $
-          use1 W (later (some (λ (γ : GName). ‵ (Lent l₄ ν γ) ⊛ ‵ (flent (ν ∷ []) (Body (mem E.the-row) l₄ 0 γ))))) (lends-ref 𝓤 H A W E.the-row (named 0) (ν ∷ []) e l₄ 0) $
+          use1 W (later (some (λ (γ : GName). ‵ (Lent l₄ ν γ) ⊛ ‵ (flent (ν ∷ []) (Body (mem E.the-row) l₄ 0 γ)))))
+          (lends-ref 𝓤 H A W E.the-row (named 0) (ν ∷ []) e l₄ 0) $
           await ! tt $ pick ! (λ γ. split ! $ move ! (2 ∷ 0 ∷ []) $ use2 W (raw (Settle .pre (handed l₄ ν γ))) (asked l₄ ν γ) $
           -- [what settle asks; the lender's part; _7; …; _6; …; _5; …; what frees _4; _3; …; _2; …; _1; …; _0; …]
           calls-at ! fm Settle known (handed l₄ ν γ)
@@ -160,8 +168,8 @@ module _ {M : Type 1} (𝓤 : URA M) (H : Heap 𝓤) (A : Atoms 𝓤) (W : Given
           (and-then ! (load ! (from ! (stop !)) (look ! 9 refl)) (no-more !)))) (λ v.
           use1 W (later (some (λ (k : ℕ). ((‵ (flft (ν ∷ []) fullShare) ⊛ ‵ ftrue) ⊛ ‵ (u8 .own k (v ∷ []))) ⊛ raw (Ensured l₄ ν γ k)))) (id⊢ 𝓤 _) $
           await ! tt $ pick ! (λ k. split ! $ move ! (1 ∷ []) $
-          use1 W (some (λ (zs : Entry × (Unit {0} × (Unit {0} × Unit {0}))). ‵ (Lasts l₄ ν γ zs) ⊛ raw (fact 𝓤 (Says k (zs .0))))) (id⊢ 𝓤 _) $ pick ! (λ zs.
-          split ! $ move ! (1 ∷ []) $ heard ! (Says k (zs .0)) (λ is. fsplit ! $
+          use1 W (some (λ (zs : Entry × (Unit {0} × (Unit {0} × Unit {0}))). ‵ (Lasts l₄ ν γ zs) ⊛ raw (fact 𝓤 (Says k (zs .0))))) (id⊢ 𝓤 _) $
+          pick ! (λ zs. split ! $ move ! (1 ∷ []) $ heard ! (Says k (zs .0)) (λ is. fsplit ! $
           -- [the last value; …; the token and what the number owns; the lender's part; _7; …]
           move ! (2 ∷ []) $ split ! $ move ! (1 ∷ []) $ peeks ! u8 (Is u8) (shows 𝓤 H A u8) k (v ∷ []) (λ k-is.
           land ! (from ! (stop !)) (init ! 9 refl (uint-lawful 𝓤 H A W w8 .typed k _ k-is .0)) $
@@ -172,19 +180,22 @@ module _ {M : Type 1} (𝓤 : URA M) (H : Heap 𝓤) (A : Atoms 𝓤) (W : Given
           use1 W (‵ (cell (zs .0) l₄) ⊛ ‵ (E.the-row .own (zs .0) (entry-vals (zs .0)))) (lay (zs .0) l₄) $ split ! $
           move ! (1 ∷ []) $ peeks ! E.the-row (Is E.the-row) (shows 𝓤 H A E.the-row) (zs .0) (entry-vals (zs .0)) (λ z-is. move ! (1 ∷ 0 ∷ []) $
           -- [_4; what its entry owns; true; what the number owns; …; _7; …; _6; …; _5; …; what frees _4; _3; …; _2; …; _1; …; _0; …]
-          assigns ! (of-opd ! (load ! (from ! (stop !)) (look ! 0 refl))) (from ! (stop !)) (init ! 5 refl (entry-lawful 𝓤 H A W .typed (zs .0) _ z-is .0)) $
-          assigns ! (agg ! (and-then ! (load ! (from ! (stop !)) (look ! 9 refl)) (and-then ! (load ! (from ! (stop !)) (look ! 5 refl)) (no-more !))))
+          assigns ! (of-opd ! (load ! (from ! (stop !)) (look ! 0 refl))) (from ! (stop !))
+          (init ! 5 refl (entry-lawful 𝓤 H A W .typed (zs .0) _ z-is .0)) $
+          assigns !
+          (agg ! (and-then ! (load ! (from ! (stop !)) (look ! 9 refl)) (and-then ! (load ! (from ! (stop !)) (look ! 5 refl)) (no-more !))))
           (from ! (stop !)) (init ! 18 refl (act-lawful 𝓤 H A W .typed (act k (zs .0)) _ (act-is k (zs .0) (k-is .1) z-is) .0)) $
-          returns ! (look ! 18 refl) $
-          forget ! 0 refl $ forget ! 5 refl $ forget ! 7 refl $ forget ! 9 refl $ forget ! 12 refl $ forget ! 14 refl $ forget ! 16 refl $ forget ! 18 refl $
+          returns ! (look ! 18 refl) $ forget ! 0 refl $ forget ! 5 refl $ forget ! 7 refl $ forget ! 9 refl $
+          forget ! 12 refl $ forget ! 14 refl $ forget ! 16 refl $ forget ! 18 refl $
           move ! (18 ∷ 19 ∷ []) $ free1 ! $ move ! (16 ∷ 17 ∷ []) $ free1 ! $ move ! (14 ∷ 15 ∷ []) $ free1 ! $ move ! (12 ∷ 13 ∷ []) $ free1 ! $
           move ! (0 ∷ 11 ∷ []) $ free1 ! $ move ! (8 ∷ 9 ∷ []) $ free1 ! $ move ! (6 ∷ 7 ∷ []) $ free1 ! $ move ! (4 ∷ 5 ∷ []) $ free1 ! $ free0 ! $
           keep ! [] $ by ! (exits (act k (zs .0)) (act-is k (zs .0) (k-is .1) z-is) (λ i. act (is .0 i) (is .1 i)))))))))))))))))))
 
   goes : AllGo 𝓤 H A W 0 (out.signature .params) (out.ended .kept) stayed
-  goes =
-      (goes-none 𝓤 H A W 0 (λ _. E.the-row) yes (λ κs x f. refl),
-      (goes-none 𝓤 H A W 0 (λ _. R.the-row) yes (λ κs x f. refl), (goes-none 𝓤 H A W 0 (λ _. N.the-row) yes (λ κs x f. refl), tt)))
+  goes = (
+    goes-none 𝓤 H A W 0 (λ _. E.the-row) yes (λ κs x f. refl),
+    (goes-none 𝓤 H A W 0 (λ _. R.the-row) yes (λ κs x f. refl), (goes-none 𝓤 H A W 0 (λ _. N.the-row) yes (λ κs x f. refl), tt)),
+  )
 
   module _ (𝓣 : Tables 𝓤 H) (known : Triple 𝓤 (𝓣 .C #settle) Settle) where
     abbrev runs-code : Fun 𝓤
