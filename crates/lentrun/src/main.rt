@@ -21,9 +21,10 @@ const CASES: u32 = 1000;
 
 const DIRECTORY: u8 = 1;
 
-// Return counts from here on are below zero.
+// From these bits on a return count is below zero.
 const HALF: u32 = 2147483648;
 
+// The bits of -1.
 const ALL: u32 = 4294967295;
 
 // The entry is lent for the time of the call, and then read.
@@ -100,7 +101,7 @@ fn same_remote(a: Remote, b: Remote) -> bool {
     a.rc == b.rc && a.msg_ctr.0 == b.msg_ctr.0
 }
 
-fn is_directory(e: Entry, d: Directory) -> bool {
+fn is_this_directory(e: Entry, d: Directory) -> bool {
     match e {
         Entry::Absent => false,
         Entry::AtOwner(other) => same_directory(d, other),
@@ -108,7 +109,7 @@ fn is_directory(e: Entry, d: Directory) -> bool {
     }
 }
 
-fn is_remote(e: Entry, r: Remote) -> bool {
+fn is_this_remote(e: Entry, r: Remote) -> bool {
     match e {
         Entry::Absent => false,
         Entry::AtOwner(_) => false,
@@ -119,8 +120,8 @@ fn is_remote(e: Entry, r: Remote) -> bool {
 fn same(a: Entry, b: Entry) -> bool {
     match a {
         Entry::Absent => b.is_absent(),
-        Entry::AtOwner(d) => is_directory(b, d),
-        Entry::Elsewhere(r) => is_remote(b, r),
+        Entry::AtOwner(d) => is_this_directory(b, d),
+        Entry::Elsewhere(r) => is_this_remote(b, r),
     }
 }
 
