@@ -2,6 +2,7 @@ pub mod BytesLaws
 pub mod CellLaws
 pub mod Content
 pub mod ContentLaws
+pub mod Front
 pub mod Keeps
 pub mod Order
 pub mod ReadLaws
