@@ -115,6 +115,7 @@ module _ {s : List ℕ} {table : Table} {heap : Heap} {turn : Turn} {at : ℕ} (
         (is : withHeap table′ heap′ ≡ withRecord (withHeap table heap) k (payload k (drop at s))) where
       onward : Reading s table′ heap′ (f .next) (at + f .length)
       onward =
+          let ns = payload k (drop at s) in
           record {
             within = passed;
             fuel = r .fuel - 1;
@@ -123,7 +124,7 @@ module _ {s : List ℕ} {table : Table} {heap : Heap} {turn : Turn} {at : ℕ} (
                 next
                 ∙ ap (λ (x : Taken). thenRead x (λ now′ t′ rest. readFrom (r .fuel - 1) now′ t′ rest)) (g .takes (withHeap table heap))
                 ∙ rw (go-on, g .next, is, g .size)
-                (ap (readFrom (r .fuel - 1) (turnAfter k (payload k (drop at s))) (withRecord (withHeap table heap) k (payload k (drop at s)))) (drop-drop (HEAD + lengthOf k) at s));
+                (ap (readFrom (r .fuel - 1) (turnAfter k ns) (withRecord (withHeap table heap) k ns)) (drop-drop (HEAD + lengthOf k) at s));
           }
 
   -- ---- what the loop stores for each kind
