@@ -1,12 +1,11 @@
 -- The three layers together are the reader's definition: what is refused is refused by it with the same number, and what is taken is taken
 -- by it. Assumes nothing.
 use mathlib.Core.Path.{_≡_, refl, sym, ap, subst, _∙_}
-use mathlib.Core.Bool.{Bool, true, false, not, true≢false}
+use mathlib.Core.Bool.{Bool, true, false, true≢false}
 use mathlib.Core.List.{List, [], _∷_, _++_}
 use Prim.Native.Nat.{ℕ, _+_, _≤_, _<_}
 use native.Mathlib.Omega.{arith}
 use borrow.Author.Tests.{ltb-false, not-false}
-use lib.Dec.{ltb}
 use lib.ListN.{length}
 use Rattle.terms.specs.Choose.{Refusal, if_then_else_, answered}
 use Rattle.table.specs.declared.Table.{Table}
