@@ -1,12 +1,11 @@
 -- The three layers together are the reader's definition: what is refused is refused by it with the same number, and what is taken is taken
 -- by it. Assumes nothing.
 use mathlib.Core.Path.{_≡_, refl, sym, ap, subst, _∙_}
-use mathlib.Core.Bool.{Bool, true, false, not, true≢false}
+use mathlib.Core.Bool.{Bool, true, false, true≢false}
 use mathlib.Core.List.{List, [], _∷_, _++_}
 use Prim.Native.Nat.{ℕ, _+_, _≤_, _<_}
 use native.Mathlib.Omega.{arith}
 use borrow.Author.Tests.{ltb-false, not-false}
-use lib.Dec.{ltb}
 use lib.ListN.{length}
 use Rattle.terms.specs.Choose.{Refusal, if_then_else_, answered}
 use Rattle.table.specs.declared.Table.{Table}
@@ -78,6 +77,7 @@ data Seen (l : List ℕ) : Both → Type 0 where
       → Seen l (record { front = goodFront k (payload k l); outcome = λ t. takeIn t k (payload k l) (restAfter k l) })
 
 module _ (now : Turn) (l : List ℕ) where
+  -- all reasons, in their order
   refusals : List Refusal
   refusals = frameRefusals (statedKind l) l ++ contentRefusals now (statedKind l) (payload (statedKind l) l) (restAfter (statedKind l) l)
 
@@ -98,8 +98,12 @@ module _ (now : Turn) (l : List ℕ) where
   seen =
       decided (Seen l) denied granted (λ n pos. refused n pos) refusals
       (omega arith, (omega arith, (omega arith, (omega arith, (omega arith, (omega arith, (omega arith, tt)))))))
-      (λ none. good (statedKind l) (none .1 .0) (not-false (fitsRecord (statedKind l) (payload (statedKind l) l)) (none .1 .1 .1 .1 .1 .0)) (ltb-false (length l) (HEAD + lengthOf (statedKind l)) (none .1 .1 .1 .0)))
+      (λ none.
+      good (statedKind l) (none .1 .0)
+      (not-false (fitsRecord (statedKind l) (payload (statedKind l) l)) (none .1 .1 .1 .1 .1 .0))
+      (ltb-false (length l) (HEAD + lengthOf (statedKind l)) (none .1 .1 .1 .0)))
 
+  -- the three layers
   front-is : frontOf now l ≡ both .front
   unfolding both refusals denied granted frameOf wholeOf
   front-is =
@@ -108,6 +112,7 @@ module _ (now : Turn) (l : List ℕ) where
       (contentRefusals now (statedKind l) (payload (statedKind l) l) (restAfter (statedKind l) l)))
       ∙ sym (answered-map (λ (b : Both). b .front) denied granted refusals)
 
+  -- and the definition
   outcome-is : (t : Table) → takeRecord now t l ≡ both .outcome t
   unfolding both refusals denied granted recordOf
   outcome-is t = sym (answered-map (λ (b : Both). b .outcome t) denied granted refusals)
@@ -131,8 +136,8 @@ pub record Bad (now : Turn) (l : List ℕ) (f : Front) : Type 0 where
   pub stops : (t : Table) → takeRecord now t l ≡ stop (f .answer)
 
 module _ (now : Turn) (l : List ℕ) where
-  good-of : (x : Both) → Seen l x → ((t : Table) → takeRecord now t l ≡ x .outcome t) → (k : RecordKind) → isUnknown k ≡ false → x .front .kind ≡ k
-      → Good now l k (x .front)
+  good-of : (x : Both) → Seen l x → ((t : Table) → takeRecord now t l ≡ x .outcome t)
+      → (k : RecordKind) → isUnknown k ≡ false → x .front .kind ≡ k → Good now l k (x .front)
   good-of x (refused n pos) out k known e = absurd (true≢false (ap isUnknown e ∙ known))
   good-of x (good j j-known fits long) out k known e =
       subst (λ (i : RecordKind). Good now l i (goodFront j (payload j l))) e
@@ -144,10 +149,13 @@ module _ (now : Turn) (l : List ℕ) where
 
   pub good-front : (f : Front) → f ≡ frontOf now l → (k : RecordKind) → isUnknown k ≡ false → f .kind ≡ k → Good now l k f
   good-front f is k known e =
-      subst (λ (g : Front). g .kind ≡ k → Good now l k g) (sym (is ∙ front-is now l)) (good-of (both now l) (seen now l) (outcome-is now l) k known) e
+      subst (λ (g : Front). g .kind ≡ k → Good now l k g) (sym (is ∙ front-is now l))
+      (good-of (both now l) (seen now l) (outcome-is now l) k known) e
 
   pub bad-front : (f : Front) → f ≡ frontOf now l → f .kind ≡ Unknown → Bad now l f
-  bad-front f is e = subst (λ (g : Front). g .kind ≡ Unknown → Bad now l g) (sym (is ∙ front-is now l)) (bad-of (both now l) (seen now l) (outcome-is now l)) e
+  bad-front f is e =
+      subst (λ (g : Front). g .kind ≡ Unknown → Bad now l g) (sym (is ∙ front-is now l))
+      (bad-of (both now l) (seen now l) (outcome-is now l)) e
 
 -- no record passes the end of the bytes
 pub front-within : (now : Turn) (l : List ℕ) (f : Front) → f ≡ frontOf now l → f .length ≤ length l

@@ -1,26 +1,23 @@
 -- The frame and the rest of a record, refused or in order, by the tests as the code makes them. Assumes nothing.
-use mathlib.Core.Path.{_≡_, refl, sym, ap, _∙_}
-use mathlib.Core.Bool.{Bool, true, false, not}
+use mathlib.Core.Path.{_≡_, sym, ap, _∙_}
+use mathlib.Core.Bool.{true, false}
 use mathlib.Core.List.{List, [], _∷_}
 use Prim.Native.Nat.{ℕ, _+_, _-_, _≤_, _<_}
 use native.Mathlib.Omega.{arith}
 use native.Mathlib.Decide.{decLt}
 use borrow.Author.Tests.{lt-ltb, le-ltb, le-leb, lt-leb, eq-eqb, ne-eqb}
-use lib.Dec.{ltb, leb, eqb}
-use lib.ListN.{length, getD, take, drop, length-drop}
+use lib.Dec.{ltb}
+use lib.ListN.{length, getD, drop, length-drop}
 use Rattle.terms.specs.Bytes.{numberOf}
-use Rattle.terms.specs.Choose.{if_then_else_, _and_, answered}
 use Rattle.terms.specs.Numbers.{SHORT, KIND, LENGTH, ORDER, VALUE, TRAIL}
-use Rattle.image.specs.declared.Frame.{Frame}
 use Rattle.image.specs.declared.Frame.the-variants.{Refused, Whole}
-use Rattle.image.specs.declared.Front.{Front}
 use Rattle.image.specs.declared.RecordKind.{RecordKind}
 use Rattle.image.specs.declared.Turn.{Turn}
 use Rattle.image.specs.Content.{fitsRecord}
 use Rattle.image.specs.Front.{frameOf, trails, noFront, goodFront, wholeOf}
 use Rattle.image.specs.Order.{positionOf}
-use Rattle.image.specs.Reader.{statedLength, statedKind, payload, restAfter}
-use Rattle.image.specs.Records.{HEAD, kindOfCode, isUnknown, isEnd, lengthOf}
+use Rattle.image.specs.Reader.{statedLength, statedKind, payload}
+use Rattle.image.specs.Records.{HEAD, kindOfCode, isUnknown, lengthOf}
 use Rattle.image.proofs.Places.{word-at}
 
 -- ---- the frame

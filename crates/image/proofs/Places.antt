@@ -5,7 +5,7 @@ use Prim.Native.Nat.{ℕ, zero, suc, _+_, _*_, _≤_}
 use native.Mathlib.Numerals.{add-one}
 use native.Mathlib.Omega.{arith}
 use lib.ListN.{length, getD, take, drop}
-use lib.Seq.{drop-cons, drop-drop}
+use lib.Seq.{drop-cons, drop-drop, getD-drop}
 use Rattle.terms.specs.Bytes.{numberOf}
 use Rattle.image.specs.declared.RecordKind.the-variants.{Live, NodeRoots, Directory, Remote, Reference, Decrement}
 use Rattle.image.specs.Content.{number}
@@ -45,25 +45,30 @@ module _ (l : List ℕ) (at : ℕ) where
 
 module _ (l : List ℕ) where
   pub live-numbers : payload Live l ≡ getD l 4 0 ∷ getD l 5 0 ∷ getD l 6 0 ∷ getD l 7 0 ∷ getD l 8 0 ∷ []
-  live-numbers = rw (drop-drop 1 4 l, drop-drop 1 5 l, drop-drop 1 6 l, drop-drop 1 7 l, byte-at l 4, byte-at l 5, byte-at l 6, byte-at l 7, byte-at l 8)
+  live-numbers = simp (byte-at, getD-drop, drop-drop)
 
   pub roots-numbers : payload NodeRoots l
       ≡ getD l 4 0 ∷ getD l 5 0 ∷ getD l 6 0 ∷ getD l 7 0 ∷ getD l 8 0 ∷ getD l 9 0 ∷ getD l 10 0 ∷ getD l 11 0 ∷ getD l 12 0 ∷ []
-  roots-numbers = rw (drop-drop 1 4 l, drop-drop 1 5 l, drop-drop 1 6 l, drop-drop 1 7 l, drop-drop 1 8 l, drop-drop 1 9 l, drop-drop 1 10 l, drop-drop 1 11 l, byte-at l 4, byte-at l 5, byte-at l 6, byte-at l 7, byte-at l 8, byte-at l 9, byte-at l 10, byte-at l 11, byte-at l 12)
+  roots-numbers = simp (byte-at, getD-drop, drop-drop)
 
   pub directory-numbers : payload Directory l ≡ getD l 4 0 ∷ numberOf (take 4 (drop 5 l)) ∷ numberOf (take 4 (drop 9 l)) ∷ []
   directory-numbers = rw (drop-drop 1 4 l, drop-drop 4 5 l, byte-at l 4)
 
   pub remote-numbers : payload Remote l
-      ≡ getD l 4 0 ∷ getD l 5 0 ∷ numberOf (take 4 (drop 6 l)) ∷ getD l 10 0 ∷ getD l 11 0 ∷ numberOf (take 4 (drop 12 l)) ∷ numberOf (take 4 (drop 16 l)) ∷ []
-  remote-numbers = rw (drop-drop 1 4 l, drop-drop 1 5 l, drop-drop 4 6 l, drop-drop 1 10 l, drop-drop 1 11 l, drop-drop 4 12 l, byte-at l 4, byte-at l 5, byte-at l 10, byte-at l 11)
+      ≡ getD l 4 0 ∷ getD l 5 0 ∷ numberOf (take 4 (drop 6 l)) ∷ getD l 10 0 ∷ getD l 11 0
+      ∷ numberOf (take 4 (drop 12 l)) ∷ numberOf (take 4 (drop 16 l)) ∷ []
+  remote-numbers =
+      rw (drop-drop 1 4 l, drop-drop 1 5 l, drop-drop 4 6 l, drop-drop 1 10 l, drop-drop 1 11 l, drop-drop 4 12 l)
+      (rw (byte-at l 4, byte-at l 5, byte-at l 10, byte-at l 11))
 
   pub reference-numbers : payload Reference l ≡ getD l 4 0 ∷ getD l 5 0 ∷ getD l 6 0 ∷ getD l 7 0 ∷ []
-  reference-numbers = rw (drop-drop 1 4 l, drop-drop 1 5 l, drop-drop 1 6 l, byte-at l 4, byte-at l 5, byte-at l 6, byte-at l 7)
+  reference-numbers = simp (byte-at, getD-drop, drop-drop)
 
   pub decrement-numbers : payload Decrement l
       ≡ getD l 4 0 ∷ getD l 5 0 ∷ getD l 6 0 ∷ getD l 7 0 ∷ numberOf (take 4 (drop 8 l)) ∷ numberOf (take 4 (drop 12 l)) ∷ []
-  decrement-numbers = rw (drop-drop 1 4 l, drop-drop 1 5 l, drop-drop 1 6 l, drop-drop 1 7 l, drop-drop 4 8 l, byte-at l 4, byte-at l 5, byte-at l 6, byte-at l 7)
+  decrement-numbers =
+      rw (drop-drop 1 4 l, drop-drop 1 5 l, drop-drop 1 6 l, drop-drop 1 7 l, drop-drop 4 8 l)
+      (rw (byte-at l 4, byte-at l 5, byte-at l 6, byte-at l 7))
 
   -- a remote entry is of a node and an object
   pub remote-node : number (payload Remote l) 0 ≡ getD l 4 0

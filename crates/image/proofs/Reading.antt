@@ -1,6 +1,6 @@
 -- The reader's loop: what is read so far and the bytes that are left still give the whole answer. The heap is kept beside the table.
 -- Assumes nothing.
-use mathlib.Core.Path.{_≡_, refl, sym, ap, _∙_}
+use mathlib.Core.Path.{_≡_, refl, ap, _∙_}
 use mathlib.Core.Bool.{Bool, true, false}
 use mathlib.Core.List.{List, [], _∷_}
 use Prim.Native.Nat.{ℕ, zero, suc, _+_, _-_, _≤_, _<_}
@@ -10,6 +10,7 @@ use borrow.Author.Tests.{ltb-true}
 use lib.Dec.{ltb}
 use lib.ListN.{length, take, drop, set, length-drop}
 use lib.Seq.{drop-drop, take-all}
+use Rattle.terms.specs.Choose.{_and_}
 use Rattle.terms.specs.CountedLaws.{and-passes}
 use Rattle.terms.specs.Limits.{NODES, OBJECTS, PLACES}
 use Rattle.terms.specs.Numbers.{ACCEPTED}
@@ -22,14 +23,13 @@ use Rattle.table.specs.declared.Place.{Place}
 use Rattle.table.specs.declared.Table.{Table}
 use Rattle.table.specs.Table.{freshTable, cellAt, withCells, withCount, withHeap}
 use Rattle.image.specs.declared.Front.{Front}
-use Rattle.image.specs.declared.Loaded.{Loaded}
 use Rattle.image.specs.declared.RecordKind.{RecordKind}
 use Rattle.image.specs.declared.RecordKind.the-variants.{Count, Live, NodeRoots, Directory, Remote, Reference, Decrement, End}
 use Rattle.image.specs.declared.Turn.{Turn}
 use Rattle.image.specs.Content.{number, liveObject, rootsOfNode, referenceMessage, decrementMessage, fitsRecord, withRecord}
-use Rattle.image.specs.Front.{cellWithDirectory, cellWithRemote}
+use Rattle.image.specs.Front.{keyOf, cellWithDirectory, cellWithRemote}
 use Rattle.image.specs.Order.{firstTurn, turnAfter}
-use Rattle.image.specs.Reader.{Taken, stop, payload, restAfter, takeIn, recordOf, takeRecord, refusedRead, thenRead, readFrom, read}
+use Rattle.image.specs.Reader.{Taken, payload, recordOf, takeRecord, refusedRead, thenRead, readFrom, read}
 use Rattle.image.specs.Records.{HEAD, isEnd, lengthOf}
 use Rattle.image.proofs.Fronting.{Good, Bad}
 
@@ -63,31 +63,33 @@ at-first s table heap e f = rw (e, f) (record { within = omega arith; fuel = len
 -- ---- the key of each kind is in range
 
 module _ {now : Turn} {l : List ℕ} {f : Front} where
+  -- where the test of the numbers begins with the key, or comes to it
+  key-below : {k : RecordKind} → Good now l k f → (limit : ℕ) (rest : Bool) → (ltb (keyOf k (payload k l)) limit and rest) ≡ true → f .key < limit
+  key-below g limit rest e = rw (g .key) (ltb-true _ limit (and-passes _ rest .0 e .0))
+
   pub live-key : Good now l Live f → f .key < OBJECTS
   unfolding fitsRecord
-  live-key g = rw (g .key) (ltb-true (number (payload Live l) 0) OBJECTS (and-passes _ _ .0 (g .fits) .0))
+  live-key g = key-below g OBJECTS _ (g .fits)
 
   pub roots-key : Good now l NodeRoots f → f .key < NODES
   unfolding fitsRecord
-  roots-key g = rw (g .key) (ltb-true (number (payload NodeRoots l) 0) NODES (and-passes _ _ .0 (g .fits) .0))
+  roots-key g = key-below g NODES _ (g .fits)
 
   pub directory-key : Good now l Directory f → f .key < OBJECTS
   unfolding fitsRecord
-  directory-key g = rw (g .key) (ltb-true (number (payload Directory l) 0) OBJECTS (and-passes _ _ .0 (g .fits) .0))
+  directory-key g = key-below g OBJECTS _ (g .fits)
 
   pub remote-key : Good now l Remote f → f .key < OBJECTS
   unfolding fitsRecord
-  remote-key g =
-      let beyond-node = and-passes (ltb (number (payload Remote l) 0) NODES) _ .0 (g .fits) .1 in
-      rw (g .key) (ltb-true (number (payload Remote l) 1) OBJECTS (and-passes (ltb (number (payload Remote l) 1) OBJECTS) _ .0 beyond-node .0))
+  remote-key g = key-below g OBJECTS _ (and-passes (ltb (number (payload Remote l) 0) NODES) _ .0 (g .fits) .1)
 
   pub reference-key : Good now l Reference f → f .key < PLACES
   unfolding fitsRecord
-  reference-key g = rw (g .key) (ltb-true (number (payload Reference l) 0) PLACES (and-passes _ _ .0 (g .fits) .0))
+  reference-key g = key-below g PLACES _ (g .fits)
 
   pub decrement-key : Good now l Decrement f → f .key < PLACES
   unfolding fitsRecord
-  decrement-key g = rw (g .key) (ltb-true (number (payload Decrement l) 0) PLACES (and-passes _ _ .0 (g .fits) .0))
+  decrement-key g = key-below g PLACES _ (g .fits)
 
 -- ---- one record more
 
@@ -115,6 +117,7 @@ module _ {s : List ℕ} {table : Table} {heap : Heap} {turn : Turn} {at : ℕ} (
         (is : withHeap table′ heap′ ≡ withRecord (withHeap table heap) k (payload k (drop at s))) where
       onward : Reading s table′ heap′ (f .next) (at + f .length)
       onward =
+          let ns = payload k (drop at s) in
           record {
             within = passed;
             fuel = r .fuel - 1;
@@ -123,7 +126,7 @@ module _ {s : List ℕ} {table : Table} {heap : Heap} {turn : Turn} {at : ℕ} (
                 next
                 ∙ ap (λ (x : Taken). thenRead x (λ now′ t′ rest. readFrom (r .fuel - 1) now′ t′ rest)) (g .takes (withHeap table heap))
                 ∙ rw (go-on, g .next, is, g .size)
-                (ap (readFrom (r .fuel - 1) (turnAfter k (payload k (drop at s))) (withRecord (withHeap table heap) k (payload k (drop at s)))) (drop-drop (HEAD + lengthOf k) at s));
+                (ap (readFrom (r .fuel - 1) (turnAfter k ns) (withRecord (withHeap table heap) k ns)) (drop-drop (HEAD + lengthOf k) at s));
           }
 
   -- ---- what the loop stores for each kind

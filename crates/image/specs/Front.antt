@@ -1,11 +1,11 @@
 -- The reader's work on the record at the front of the bytes, in three layers (document 01, "Reader"): its frame, its turn, its numbers.
 -- None of them looks at the table. The proofs have that together they are what Reader.antt says. Definitions only; assumes nothing.
-use mathlib.Core.Bool.{Bool, true, false, not}
-use mathlib.Core.List.{List, [], _∷_}
+use mathlib.Core.Bool.{Bool}
+use mathlib.Core.List.{List}
 use Prim.Native.Nat.{ℕ, _+_}
 use lib.Dec.{ltb}
 use lib.ListN.{length}
-use Rattle.terms.specs.Choose.{if_then_else_, _and_, answered}
+use Rattle.terms.specs.Choose.{_and_, answered}
 use Rattle.terms.specs.Limits.{owner}
 use Rattle.terms.specs.Numbers.{ACCEPTED}
 use Rattle.table.specs.declared.Cell.{Cell}
@@ -18,7 +18,7 @@ use Rattle.image.specs.declared.RecordKind.the-variants.{Count, Live, No
 use Rattle.image.specs.declared.Spot.{Spot}
 use Rattle.image.specs.declared.Turn.{Turn}
 use Rattle.image.specs.Content.{number, directoryEntry, remoteEntry}
-use Rattle.image.specs.Order.{position, positionOf, firstTurn, turn, turnAfter}
+use Rattle.image.specs.Order.{positionOf, firstTurn, turn, turnAfter}
 use Rattle.image.specs.Reader.{statedKind, payload, restAfter, frameRefusals, contentRefusals}
 use Rattle.image.specs.Records.{HEAD, isEnd, lengthOf}
 

@@ -20,7 +20,8 @@ ghost use Rattle.image.specs.Content.{liveObject, rootsOfNode, directory
 ghost use Rattle.image.specs.Front.{trails, cellWithDirectory, cellWithRemote};
 ghost use Rattle.image.specs.Reader.{payload};
 ghost use Rattle.image.specs.Records.{HEAD as HEAD-BYTES, isEnd, lengthOf};
-ghost use Rattle.image.specs.declared.RecordKind.the-variants.{Count, Live, NodeRoots, Directory as DirectoryKind, Remote as RemoteKind, Reference, Decrement};
+ghost use Rattle.image.specs.declared.RecordKind.the-variants.{Count, Live, NodeRoots, Reference, Decrement};
+ghost use Rattle.image.specs.declared.RecordKind.the-variants.{Directory as DirectoryKind, Remote as RemoteKind};
 
 // ---- what stands in the records
 

@@ -29,7 +29,9 @@ number-at-requires : tie.Need-number-at-requires
 number-at-requires c κs = search needs
 
 returns : tie.Need-returns
-returns c = rw (c .number-at .ensures, c .before .returns-at .ensures) (sym (ap place (decrement-numbers (c .before .before .before .before .before .before .args .l .now))))
+returns c =
+    let l = c .before .before .before .before .before .before .args .l .now in
+    rw (c .number-at .ensures, c .before .returns-at .ensures) (sym (ap place (decrement-numbers l)))
 
 pub decrement-in-spec : {M : Type 1} → statement M
 decrement-in-spec =

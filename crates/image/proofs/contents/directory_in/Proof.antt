@@ -13,7 +13,9 @@ returns-at-requires : tie.Need-returns-at-requires
 returns-at-requires c κs = search needs
 
 returns : tie.Need-returns
-returns c = rw (c .returns-at .ensures, c .before .number-at .ensures) (sym (ap directoryEntry (directory-numbers (c .before .before .before .args .l .now))))
+returns c =
+    let l = c .before .before .before .args .l .now in
+    rw (c .returns-at .ensures, c .before .number-at .ensures) (sym (ap directoryEntry (directory-numbers l)))
 
 pub directory-in-spec : {M : Type 1} → statement M
 directory-in-spec = tie.close (tie.spec number-at-requires returns-at-requires returns)

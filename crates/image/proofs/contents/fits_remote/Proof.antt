@@ -18,14 +18,26 @@ returns c = rw (remote-node (c .before .before .before .before .args .l .now), l
 
 returns-2 : tie.Need-returns-2
 unfolding fitsRecord
-returns-2 c = rw (remote-node (c .before .before .before .before .before .args .l .now), remote-object (c .before .before .before .before .before .args .l .now), lt-ltb _ _ (c .before .if1 .left), le-ltb _ _ (c .if2 .taken))
+returns-2 c =
+    let l = c .before .before .before .before .before .args .l .now in
+    rw (remote-node l, remote-object l, lt-ltb _ _ (c .before .if1 .left), le-ltb _ _ (c .if2 .taken))
 
 shared-slice-read-if3 : tie.Need-shared-slice-read-if3
 shared-slice-read-if3 c = search needs
 
 returns-3 : tie.Need-returns-3
 unfolding fitsRecord
-returns-3 c = rw (remote-node (c .before .before .before .before .before .before .before .args .l .now), remote-object (c .before .before .before .before .before .before .before .args .l .now), remote-presence (c .before .before .before .before .before .before .before .args .l .now), lt-ltb _ _ (c .before .before .before .if1 .left), lt-ltb _ _ (c .before .before .if2 .left), lt-leb _ _ (c .if3 .taken))
+returns-3 c =
+    let o = c .before .before in
+    let l = o .before .before .before .before .before .args .l .now in
+    rw (
+      remote-node l,
+      remote-object l,
+      remote-presence l,
+      lt-ltb _ _ (o .before .if1 .left),
+      lt-ltb _ _ (o .if2 .left),
+      lt-leb _ _ (c .if3 .taken),
+    )
 
 remote-in-requires : tie.Need-remote-in-requires
 remote-in-requires c κs = search needs
@@ -35,7 +47,20 @@ fits-requires c κs = search needs
 
 returns-4 : tie.Need-returns-4
 unfolding fitsRecord
-returns-4 c = rw (c .fits2 .ensures, c .before .remote-in .ensures, remote-node (c .before .before .before .before .before .before .before .before .before .args .l .now), remote-object (c .before .before .before .before .before .before .before .before .before .args .l .now), remote-presence (c .before .before .before .before .before .before .before .before .before .args .l .now), lt-ltb _ _ (c .before .before .before .before .before .if1 .left), lt-ltb _ _ (c .before .before .before .before .if2 .left), le-leb _ _ (c .before .before .if3 .left))
+returns-4 c =
+    let e = c .before .before in
+    let o = e .before .before in
+    let l = o .before .before .before .before .before .args .l .now in
+    rw (
+      c .fits2 .ensures,
+      c .before .remote-in .ensures,
+      remote-node l,
+      remote-object l,
+      remote-presence l,
+      lt-ltb _ _ (o .before .if1 .left),
+      lt-ltb _ _ (o .if2 .left),
+      le-leb _ _ (e .if3 .left),
+    )
 
 pub fits-remote-spec : {M : Type 1} → statement M
 fits-remote-spec =

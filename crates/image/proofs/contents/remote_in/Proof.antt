@@ -22,7 +22,10 @@ number-at-requires-2 : tie.Need-number-at-requires-2
 number-at-requires-2 c κs = search needs
 
 returns : tie.Need-returns
-returns c = rw (c .number-at2 .ensures, c .before .returns-at .ensures, c .before .before .before .before .number-at .ensures) (sym (ap remoteEntry (remote-numbers (c .before .before .before .before .before .before .args .l .now))))
+returns c =
+    let n = c .before .before .before .before in
+    let l = n .before .before .args .l .now in
+    rw (c .number-at2 .ensures, c .before .returns-at .ensures, n .number-at .ensures) (sym (ap remoteEntry (remote-numbers l)))
 
 pub remote-in-spec : {M : Type 1} → statement M
 remote-in-spec =

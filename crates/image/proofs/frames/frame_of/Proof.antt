@@ -37,22 +37,49 @@ is-unknown-requires : tie.Need-is-unknown-requires
 is-unknown-requires c κs = search needs
 
 returns-2 : tie.Need-returns-2
-returns-2 c = sym (no-kind (c .before .before .before .before .before .before .before .before .before .before .before .args .l .now) (c .before .before .before .before .before .before .before .before .before .if1 .left) (c .before .before .kind-of .result) (c .before .before .kind-of .ensures ∙ ap kindOfCode (c .before .before .before .word2 .ensures)) (sym (c .before .is-unknown .ensures) ∙ c .if2 .taken))
+returns-2 c =
+    let k = c .before .before in
+    let head = k .before .before .before .before .before .before .before in
+    sym (no-kind (head .before .before .args .l .now) (head .if1 .left) _ (k .kind-of .ensures ∙ ap kindOfCode (k .before .word2 .ensures))
+    (sym (c .before .is-unknown .ensures) ∙ c .if2 .taken))
 
 length-of-requires : tie.Need-length-of-requires
 length-of-requires c κs = search needs
 
 returns-3 : tie.Need-returns-3
-returns-3 c = sym (other-length (c .before .before .before .before .before .before .before .before .before .before .before .before .before .args .l .now) (c .before .before .before .before .before .before .before .before .before .before .before .if1 .left) (c .before .before .before .before .kind-of .result) (c .before .before .before .before .kind-of .ensures ∙ ap kindOfCode (c .before .before .before .before .before .word2 .ensures)) (sym (c .before .before .before .is-unknown .ensures) ∙ c .before .before .if2 .left) (λ e. c .if3 .taken (c .before .before .before .before .before .before .before .before .word .ensures ∙ e ∙ sym (c .before .length-of .ensures))))
+returns-3 c =
+    let u = c .before .before .before in
+    let k = u .before in
+    let w = k .before .before .before .before in
+    let head = w .before .before .before in
+    sym (other-length (head .before .before .args .l .now) (head .if1 .left) _ (k .kind-of .ensures ∙ ap kindOfCode (k .before .word2 .ensures))
+    (sym (u .is-unknown .ensures) ∙ c .before .before .if2 .left)
+    (λ e. c .if3 .taken (w .word .ensures ∙ e ∙ sym (c .before .length-of .ensures))))
 
 add-if4 : tie.Need-add-if4
 add-if4 c = search needs
 
 returns-4 : tie.Need-returns-4
-returns-4 c = sym (cut (c .before .before .before .before .before .before .before .before .before .before .before .before .before .before .args .l .now) (c .before .before .before .before .before .before .before .before .before .before .before .before .if1 .left) (c .before .before .before .before .before .kind-of .result) (c .before .before .before .before .before .kind-of .ensures ∙ ap kindOfCode (c .before .before .before .before .before .before .word2 .ensures)) (sym (c .before .before .before .before .is-unknown .ensures) ∙ c .before .before .before .if2 .left) (sym (c .before .before .before .before .before .before .before .before .before .word .ensures) ∙ c .before .if3 .left ∙ c .before .before .length-of .ensures) (rw (c .before .before .length-of .ensures) at (c .if4 .taken)))
+returns-4 c =
+    let n = c .before .before in
+    let u = n .before .before in
+    let k = u .before in
+    let w = k .before .before .before .before in
+    let head = w .before .before .before in
+    sym (cut (head .before .before .args .l .now) (head .if1 .left) _ (k .kind-of .ensures ∙ ap kindOfCode (k .before .word2 .ensures))
+    (sym (u .is-unknown .ensures) ∙ n .before .if2 .left) (sym (w .word .ensures) ∙ c .before .if3 .left ∙ n .length-of .ensures)
+    (rw (n .length-of .ensures) at (c .if4 .taken)))
 
 returns-5 : tie.Need-returns-5
-returns-5 c = sym (whole (c .before .before .before .before .before .before .before .before .before .before .before .before .before .before .args .l .now) (c .before .before .before .before .before .before .before .before .before .before .before .before .if1 .left) (c .before .before .before .before .before .kind-of .result) (c .before .before .before .before .before .kind-of .ensures ∙ ap kindOfCode (c .before .before .before .before .before .before .word2 .ensures)) (sym (c .before .before .before .before .is-unknown .ensures) ∙ c .before .before .before .if2 .left) (sym (c .before .before .before .before .before .before .before .before .before .word .ensures) ∙ c .before .if3 .left ∙ c .before .before .length-of .ensures) (rw (c .before .before .length-of .ensures) at (c .if4 .left)))
+returns-5 c =
+    let n = c .before .before in
+    let u = n .before .before in
+    let k = u .before in
+    let w = k .before .before .before .before in
+    let head = w .before .before .before in
+    sym (whole (head .before .before .args .l .now) (head .if1 .left) _ (k .kind-of .ensures ∙ ap kindOfCode (k .before .word2 .ensures))
+    (sym (u .is-unknown .ensures) ∙ n .before .if2 .left) (sym (w .word .ensures) ∙ c .before .if3 .left ∙ n .length-of .ensures)
+    (rw (n .length-of .ensures) at (c .if4 .left)))
 
 pub frame-of-spec : {M : Type 1} → statement M
 frame-of-spec =

@@ -18,7 +18,9 @@ enum-known-frame-2 : tie.Need-enum-known-frame-2
 enum-known-frame-2 c = search needs
 
 whole-of-requires : tie.Need-whole-of-requires
-whole-of-requires c κs = whole-long (c .before .before .before .before .before .args .l .now) _ (sym (c .before .before .before .frame-of .ensures) ∙ c .before .frame2 .given .1)
+whole-of-requires c κs =
+    let f = c .before .before .before in
+    whole-long (f .before .before .args .l .now) _ (sym (f .frame-of .ensures) ∙ c .before .frame2 .given .1)
 
 returns : tie.Need-returns
 returns c = rw (sym (c .before .before .before .before .frame-of .ensures) ∙ c .before .before .frame .given .1) (c .no-front .ensures)

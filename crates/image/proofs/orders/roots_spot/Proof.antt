@@ -22,13 +22,17 @@ before-requires : tie.Need-before-requires
 before-requires c κs = search needs
 
 returns : tie.Need-returns
-returns c = let p = c .before .before .before .args .p in simp (c .before2 .ensures, c .before .before .wide .ensures, lt-ltb (p + 1) 8 (omega arith))
+returns c =
+    let p = c .before .before .before .args .p in
+    simp (c .before2 .ensures, c .before .before .wide .ensures, lt-ltb (p + 1) 8 (omega arith))
 
 before-requires-2 : tie.Need-before-requires-2
 before-requires-2 c κs = search needs
 
 returns-2 : tie.Need-returns-2
-returns-2 c = let p = c .before .before .before .args .p in simp (c .before3 .ensures, c .before .before .wide .ensures, le-ltb (p + 1) 8 (omega arith))
+returns-2 c =
+    let p = c .before .before .before .args .p in
+    simp (c .before3 .ensures, c .before .before .wide .ensures, le-ltb (p + 1) 8 (omega arith))
 
 pub roots-spot-spec : {M : Type 1} → statement M
 roots-spot-spec =

@@ -54,7 +54,10 @@ add-up-to : tie.Need-add-up-to
 add-up-to c = record { fits = omega (arith, c .before .shared-slice-known5 .given 4) }
 
 shared-slice-read-up-to-3 : tie.Need-shared-slice-read-up-to-3
-shared-slice-read-up-to-3 c = let long = rw (c .before .before .before .enum-told5 .given .1) at (c .before .before .before .before .before .before .pre) in omega arith
+shared-slice-read-up-to-3 c =
+    let k = c .before .before .before in
+    let long = rw (k .enum-told5 .given .1) at (k .before .before .before .pre) in
+    omega arith
 
 up-to-requires-3 : tie.Need-up-to-requires-3
 up-to-requires-3 c κs = omega (arith, c .before .before .shared-slice-known5 .given 4)
@@ -102,7 +105,9 @@ returns-4 : tie.Need-returns-4
 returns-4 c = rw (c .before .before .enum-told4 .given .1) (simp (c .up-to2 .ensures, byte-at))
 
 returns-5 : tie.Need-returns-5
-returns-5 c = rw (c .before .before .before .before .enum-told5 .given .1) (rw (c .up-to3 .ensures, c .before .before .wide .ensures) (remote-spot (c .before .before .before .before .before .before .before .args .l .now)))
+returns-5 c =
+    let k = c .before .before .before .before in
+    rw (k .enum-told5 .given .1) (rw (c .up-to3 .ensures, c .before .before .wide .ensures) (remote-spot (k .before .before .before .args .l .now)))
 
 returns-6 : tie.Need-returns-6
 returns-6 c = rw (c .before .before .enum-told6 .given .1) (simp (c .up-to4 .ensures, byte-at))
