@@ -1,2 +1,2 @@
 pub mod Bits
-pub mod Numbered
+pub mod InOrder
