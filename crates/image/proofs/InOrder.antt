@@ -1,11 +1,11 @@
 -- The whole image in the buffer where it is made: the count, the sections one behind the other and the end are the records of the table, and the
 -- front of the buffer is the image. Assumes nothing.
-use mathlib.Core.Path.{_≡_, refl, sym, ap, _∙_}
+use mathlib.Core.Path.{_≡_, sym, _∙_}
 use mathlib.Core.List.{List, [], _∷_, _++_, append-assoc}
-use Prim.Native.Nat.{ℕ, _+_, _≤_}
+use Prim.Native.Nat.{ℕ}
 use native.Mathlib.Omega.{arith}
-use lib.ListN.{length, take}
-use lib.Seq.{sets, take-at}
+use lib.ListN.{length}
+use lib.Seq.{take-at}
 use Rattle.terms.specs.BufferLaws.{sets-front}
 use Rattle.terms.specs.Counted.{gather}
 use Rattle.terms.specs.Limits.{NODES, OBJECTS, PLACES, owner}

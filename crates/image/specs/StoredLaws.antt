@@ -1,13 +1,13 @@
 -- Laws of specs/Stored.antt: bytes stored behind bytes, records put behind records, and a turn of a loop that puts them one by one.
 -- Assumes nothing.
 use mathlib.Core.Path.{_≡_, refl, sym, ap, _∙_}
-use mathlib.Core.List.{List, [], _∷_, _++_}
-use Prim.Native.Nat.{ℕ, zero, suc, _+_, _*_, _≤_}
+use mathlib.Core.List.{List, [], _++_}
+use Prim.Native.Nat.{ℕ, _+_, _*_}
 use native.Mathlib.Nat.{mul-suc}
 use native.Mathlib.Numerals.{add-one}
 use native.Mathlib.Omega.{arith}
 use lib.ListN.{length, length-append}
-use lib.Seq.{sets, length-sets}
+use lib.Seq.{length-sets}
 use Rattle.terms.specs.BufferLaws.{sets-append}
 use Rattle.terms.specs.Counted.{gatherFrom, gather}
 use Rattle.terms.specs.CountedLaws.{gather-last}

@@ -1,12 +1,12 @@
 -- `image::entry_records::put_cells` puts the directories and the other entries. The outer loops' invariants: what is passed so far is put; the first
 -- inner loop goes on with the objects from where it began, the second puts the entries of one node. Assumes nothing.
 use mathlib.Core.Path.{_≡_, sym}
-use Prim.Native.Nat.{ℕ, _+_, _-_, _*_, _≤_}
+use Prim.Native.Nat.{ℕ, _-_, _*_, _≤_}
 use mathlib.Core.List.{List}
 use native.Mathlib.Omega.{arith}
 use Rattle.terms.specs.Counted.{gather}
 use Rattle.image.specs.Records.{Record}
-use Rattle.image.specs.StoredLaws.{put-none, put-start, put-more, put-both}
+use Rattle.image.specs.StoredLaws.{put-start, put-more, put-both}
 use mathlib.Core.Path.{_≡_}
 use Rattle.terms.specs.Limits.{NODES, OBJECTS, OWNED, owner}
 use Rattle.table.specs.declared.Cell.{Cell}

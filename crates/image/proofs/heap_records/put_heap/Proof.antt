@@ -1,11 +1,11 @@
 -- `image::heap_records::put_heap` puts the live objects and the roots. The loops' invariants: what is passed so far is put. Assumes nothing.
 use mathlib.Core.Path.{_≡_}
-use Prim.Native.Nat.{ℕ, _+_, _-_, _*_, _≤_}
+use Prim.Native.Nat.{ℕ, _-_, _*_, _≤_}
 use mathlib.Core.List.{List}
 use native.Mathlib.Omega.{arith}
 use Rattle.terms.specs.Counted.{gather}
 use Rattle.image.specs.Records.{Record}
-use Rattle.image.specs.StoredLaws.{put-none, put-start, put-more, put-both}
+use Rattle.image.specs.StoredLaws.{put-start, put-more, put-both}
 use Rattle.terms.specs.Limits.{NODES, OBJECTS}
 use Rattle.heap.specs.declared.Heap.{Heap}
 use Rattle.heap.specs.Heap.{objectAt, rootsAt}

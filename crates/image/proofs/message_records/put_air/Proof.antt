@@ -1,11 +1,11 @@
 -- `image::message_records::put_air` puts the messages. The loop's invariant: what is passed so far is put. Assumes nothing.
 use mathlib.Core.Path.{_≡_}
-use Prim.Native.Nat.{ℕ, _+_, _-_, _*_, _≤_}
+use Prim.Native.Nat.{ℕ, _-_, _*_, _≤_}
 use mathlib.Core.List.{List}
 use native.Mathlib.Omega.{arith}
 use Rattle.terms.specs.Counted.{gather}
 use Rattle.image.specs.Records.{Record}
-use Rattle.image.specs.StoredLaws.{put-none, put-start, put-more, put-both}
+use Rattle.image.specs.StoredLaws.{put-start, put-more}
 use Rattle.terms.specs.Limits.{PLACES}
 use Rattle.table.specs.declared.Place.{Place}
 use Rattle.image.specs.Stored.{MESSAGE-BYTES, Put, placeIn}

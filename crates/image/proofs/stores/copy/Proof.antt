@@ -8,8 +8,6 @@ use lib.Seq.{sets, take-length}
 use Rattle.terms.specs.BufferLaws.{sets-more, sets-front}
 use Rattle.image.proofs.stores.copy.Statement.{statement}
 use Rattle.image.proofs.stores.copy.Tie as tie
-use Rattle.image.proofs.stores.copy.Reads as reads
-use Rattle.image.proofs.stores.copy.Lts as lts
 
 abbrev Inv-loop : tie.InvT-loop
 Inv-loop out₀ text done₀ out done = (done ≤ length text) × (length out ≡ length out₀) × (out ≡ sets out₀ 0 (take done text))
@@ -17,27 +15,21 @@ Inv-loop out₀ text done₀ out done = (done ≤ length text) × (length out �
 abbrev μ-loop : tie.MeasureT-loop
 μ-loop out₀ text done₀ out done = length text - done
 
--- src/stores.rt:110:5
 loop-holds : tie.Need-loop-holds Inv-loop μ-loop
 loop-holds c = (omega arith, refl, refl)
 
--- src/stores.rt:111:21
 shared-slice-read-out : tie.Need-shared-slice-read-out Inv-loop μ-loop
 shared-slice-read-out c = omega arith
 
--- src/stores.rt:111:9
 slice-write-out : tie.Need-slice-write-out Inv-loop μ-loop
 slice-write-out c = omega arith
 
--- src/stores.rt:112:9
 add-done : tie.Need-add-done Inv-loop μ-loop
 add-done c = omega arith
 
--- src/stores.rt:110:5
 loop-less : tie.Need-loop-less Inv-loop μ-loop
 loop-less c = omega arith
 
--- src/stores.rt:110:5
 loop-again : tie.Need-loop-again Inv-loop μ-loop
 loop-again c =
     let h = c .before .before in
@@ -48,11 +40,9 @@ loop-again c =
       rw (h .loop .inv .2) (rw zero-add at more),
     )
 
--- src/stores.rt:105:1
 same-length : tie.Need-same-length Inv-loop μ-loop
 same-length c = c .before .loop .inv .1
 
--- src/stores.rt:105:1
 returns : tie.Need-returns Inv-loop μ-loop
 returns c =
     let h = c .before in
