@@ -7,39 +7,37 @@ use native.Mathlib.Omega.{arith}
 use lib.ListN.{length}
 use lib.Seq.{take-at}
 use Rattle.terms.specs.BufferLaws.{sets-front}
-use Rattle.terms.specs.Counted.{gather}
-use Rattle.terms.specs.Limits.{NODES, OBJECTS, PLACES, owner}
 use Rattle.table.specs.declared.Table.{Table}
-use Rattle.table.specs.Table.{entryAt, messageAt}
 use Rattle.image.specs.declared.RecordKind.the-variants.{Count, End}
 use Rattle.image.specs.Records.{Record, row, recordBytes}
-use Rattle.image.specs.Stored.{Stored, Put, Made, COUNT-BYTES, HEAP-BYTES, CELLS-BYTES, AIR-BYTES, END-BYTES, FULL}
+use Rattle.image.specs.Stored.{Stored, Put, Made, heapRecords, cellsRecords, airRecords}
+use Rattle.image.specs.Stored.{COUNT-BYTES, HEAP-BYTES, CELLS-BYTES, AIR-BYTES, END-BYTES, FULL}
 use Rattle.image.specs.StoredLaws.{stored-length, put-both}
-use Rattle.image.specs.Writer.{objectRecord, rootsRecord, directoryRecord, remoteRecord, messageRecord, bytesOfAll, recordsOf, image}
+use Rattle.image.specs.Writer.{bytesOfAll, recordsOf, image}
 
 module _ (t : Table) where
-  abbrev heapRecords : List Record
-  heapRecords = gather OBJECTS (objectRecord t) ++ gather NODES (rootsRecord t)
+  abbrev count-record : List Record
+  count-record = row Count (t .count ∷ []) ∷ []
 
-  abbrev cellRecords : List Record
-  cellRecords = gather OBJECTS (λ o. directoryRecord o (entryAt t (owner o) o)) ++ gather NODES (λ p. gather OBJECTS (λ o. remoteRecord p o (entryAt t p o)))
-
-  abbrev airRecords : List Record
-  airRecords = gather PLACES (λ s. messageRecord s (messageAt t s))
+  abbrev end-record : List Record
+  end-record = row End [] ∷ []
 
   -- the sections one behind the other are all records
-  in-order : ((((row Count (t .count ∷ []) ∷ []) ++ heapRecords) ++ cellRecords) ++ airRecords) ++ (row End [] ∷ []) ≡ recordsOf t
+  in-order : (((count-record ++ heapRecords (t .heap)) ++ cellsRecords (t .cells)) ++ airRecords (t .air)) ++ end-record ≡ recordsOf t
   unfolding recordsOf
   in-order = simp append-assoc
 
   module _ {empty : List ℕ} {m₁ : List ℕ} {a : ℕ} {m₂ : List ℕ} {b : ℕ} {m₃ : List ℕ} {c : ℕ} {m₄ : List ℕ} {d : ℕ} {made : List ℕ} {n : ℕ}
-      (count : Stored empty 0 (recordBytes (row Count (t .count ∷ []))) m₁ a) (heap : Put HEAP-BYTES heapRecords m₁ a m₂ b)
-      (cells : Put CELLS-BYTES cellRecords m₂ b m₃ c) (air : Put AIR-BYTES airRecords m₃ c m₄ d) (end : Stored m₄ d (recordBytes (row End [])) made n) where
-    first : Put COUNT-BYTES (row Count (t .count ∷ []) ∷ []) empty 0 m₁ a
+      (count : Stored empty 0 (recordBytes (row Count (t .count ∷ []))) m₁ a)
+      (heap : Put HEAP-BYTES (heapRecords (t .heap)) m₁ a m₂ b)
+      (cells : Put CELLS-BYTES (cellsRecords (t .cells)) m₂ b m₃ c)
+      (air : Put AIR-BYTES (airRecords (t .air)) m₃ c m₄ d)
+      (end : Stored m₄ d (recordBytes (row End [])) made n) where
+    first : Put COUNT-BYTES count-record empty 0 m₁ a
     unfolding bytesOfAll
     first = record { stored = count; small = omega (arith, count .place) }
 
-    last : Put END-BYTES (row End [] ∷ []) m₄ d made n
+    last : Put END-BYTES end-record m₄ d made n
     unfolding bytesOfAll
     last = record { stored = end; small = omega (arith, end .place) }
 
@@ -53,4 +51,9 @@ module _ (t : Table) where
         let v = bytesOfAll (recordsOf t) in
         let size : n ≡ length v = omega (arith, whole .stored .place) in
         let stands = whole .stored .stands ∙ sets-front empty v (omega (arith, whole .small, size, fits)) in
-        record { whole = stored-length (whole .stored) ∙ fits; size = size; small = omega (arith, whole .small); front = rw stands (take-at v _ n (sym size)) }
+        record {
+          whole = stored-length (whole .stored) ∙ fits;
+          size = size;
+          small = omega (arith, whole .small);
+          front = rw stands (take-at v _ n (sym size));
+        }

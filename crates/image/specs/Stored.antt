@@ -1,26 +1,36 @@
 -- Records in a buffer, from a place on: what the buffer is afterwards, and which place comes next. The whole image is made in a buffer with
 -- room for every record that a table could have. Definitions only; assumes nothing.
 use mathlib.Core.Path.{_≡_}
-use mathlib.Core.List.{List, [], _∷_}
+use mathlib.Core.List.{List, [], _∷_, _++_}
 use Prim.Native.Nat.{ℕ, _+_, _*_, _≤_}
 use lib.ListN.{length, take, getD}
 use lib.Seq.{sets}
+use Rattle.terms.specs.Bytes.{packed}
 use Rattle.terms.specs.Choose.{if_then_else_}
-use Rattle.terms.specs.Limits.{NODES, OBJECTS, PLACES}
+use Rattle.terms.specs.Counted.{gather}
+use Rattle.terms.specs.Limits.{NODES, OBJECTS, PLACES, owner}
+use Rattle.entry.specs.declared.Entry.{Entry}
+use Rattle.heap.specs.declared.Heap.{Heap}
 use Rattle.heap.specs.declared.Object.{Object}
 use Rattle.heap.specs.declared.Roots.{Roots}
+use Rattle.heap.specs.Heap.{objectAt, rootsAt}
 use Rattle.table.specs.declared.Cell.{Cell}
 use Rattle.table.specs.declared.Message.the-variants.{Empty}
 use Rattle.table.specs.declared.Place.{Place}
 use Rattle.table.specs.declared.Table.{Table}
+use Rattle.table.specs.Table.{entryIn}
 use Rattle.image.specs.declared.RecordKind.the-variants.{Live, NodeRoots}
 use Rattle.image.specs.Records.{Record, row}
-use Rattle.image.specs.Writer.{bytesOfAll, image}
+use Rattle.image.specs.Writer.{directoryRecord, remoteRecord, messageRecord, bytesOfAll, image}
 
 -- the bytes stand in the buffer from `at` on and nothing else changed; `to` is the place after them
 pub record Stored (before : List ℕ) (at : ℕ) (bytes : List ℕ) (after : List ℕ) (to : ℕ) : Type 0 where
   pub place : to ≡ at + length bytes
   pub stands : after ≡ sets before at bytes
+
+-- four numbers of a byte each
+abbrev pub four : ℕ → ℕ → ℕ → ℕ → List ℕ
+four a b c d = packed (1 ∷ 1 ∷ 1 ∷ 1 ∷ []) (a ∷ b ∷ c ∷ d ∷ [])
 
 -- the records stand there, in so many bytes at most
 pub record Put (most : ℕ) (rs : List Record) (before : List ℕ) (at : ℕ) (after : List ℕ) (to : ℕ) : Type 0 where
@@ -72,7 +82,7 @@ pub record Made (t : Table) (buffer : List ℕ) (n : ℕ) : Type 0 where
   pub small : n ≤ FULL
   pub front : take n buffer ≡ image t
 
--- ---- the record of one thing by itself
+-- ---- the records of a part of the table by itself
 
 -- an object, if it is live
 abbrev pub liveRecord : ℕ → Object → List Record
@@ -86,10 +96,27 @@ nodeRecord p x =
     let r : ℕ → ℕ = λ k. getD (x .at) k 0 in
     row NodeRoots (p ∷ r 0 ∷ r 1 ∷ r 2 ∷ r 3 ∷ r 4 ∷ r 5 ∷ r 6 ∷ r 7 ∷ []) ∷ []
 
--- ---- what stands where
+-- the live objects, then the roots of every node
+abbrev pub heapRecords : Heap → List Record
+heapRecords h = gather OBJECTS (λ o. liveRecord o (objectAt h o)) ++ gather NODES (λ p. nodeRecord p (rootsAt h p))
 
-abbrev pub cellIn : List Cell → ℕ → Cell
-cellIn cells o = getD cells o (record { at = [] })
+-- the entry of object o at node p, among the cells
+abbrev pub entryOf : List Cell → ℕ → ℕ → Entry
+entryOf cells p o = entryIn (getD cells o (record { at = [] })) p
 
-abbrev pub placeIn : List Place → ℕ → Place
-placeIn air s = getD air s (record { held = Empty })
+abbrev pub directoryOf : List Cell → ℕ → List Record
+directoryOf cells o = directoryRecord o (entryOf cells (owner o) o)
+
+abbrev pub remoteOf : List Cell → ℕ → ℕ → List Record
+remoteOf cells p o = remoteRecord p o (entryOf cells p o)
+
+-- the directories by object, then the other entries by node and object
+abbrev pub cellsRecords : List Cell → List Record
+cellsRecords cells = gather OBJECTS (directoryOf cells) ++ gather NODES (λ p. gather OBJECTS (remoteOf cells p))
+
+abbrev pub messageOf : List Place → ℕ → List Record
+messageOf air s = messageRecord s (getD air s (record { held = Empty }) .held)
+
+-- the messages by place
+abbrev pub airRecords : List Place → List Record
+airRecords air = gather PLACES (messageOf air)

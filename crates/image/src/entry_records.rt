@@ -10,15 +10,10 @@ use entry::Remote;
 use table::Cell;
 use table::Table;
 ghost use mathlib.Core.Path.{_≡_};
-ghost use mathlib.Core.List.{[], _∷_, _++_};
 ghost use Prim.Native.Nat.{_+_, _≤_};
-ghost use Rattle.terms.specs.Bytes.{twosComplement};
-ghost use Rattle.terms.specs.Counted.{gather, one};
-ghost use Rattle.terms.specs.Limits.{NODES, OBJECTS, owner};
-ghost use Rattle.table.specs.Table.{entryIn};
-ghost use Rattle.image.specs.declared.RecordKind.the-variants.{Directory as DirectoryKind, Remote as RemoteKind};
-ghost use Rattle.image.specs.Records.{row};
-ghost use Rattle.image.specs.Stored.{FULL as ROOM-FOR-ALL, DIRECTORY-BYTES, REMOTE-BYTES, CELLS-BYTES, Put, cellIn};
+ghost use Rattle.terms.specs.Counted.{one};
+ghost use Rattle.entry.specs.declared.Entry.the-variants.{AtOwner, Elsewhere};
+ghost use Rattle.image.specs.Stored.{FULL as ROOM-FOR-ALL, DIRECTORY-BYTES, REMOTE-BYTES, CELLS-BYTES, Put, cellsRecords};
 ghost use Rattle.image.specs.Writer.{directoryRecord, remoteRecord};
 
 const DIRECTORY: u8 = 0x03;
@@ -31,7 +26,7 @@ const REMOTE_PAYLOAD: u8 = 16;
 
 fn put_owners(out: &mut [u8; FULL], at: usize, o: u8, d: Directory) -> usize
     requires { ⌜ at + DIRECTORY-BYTES ≤ ROOM-FOR-ALL ⌝ }
-    ensures { λ r. ⌜ Put DIRECTORY-BYTES (row DirectoryKind (o ∷ d .rc ∷ twosComplement (d .«msg_ctr» .0) ∷ []) ∷ []) (now (out .entry)) at (now (out .exit)) r ⌝ }
+    ensures { λ r. ⌜ Put DIRECTORY-BYTES (directoryRecord o (AtOwner d)) (now (out .entry)) at (now (out .exit)) r ⌝ }
 {
     let rc = d.rc;
     let returned = d.msg_ctr;
@@ -49,7 +44,7 @@ fn one_if(there: bool) -> u8
 
 fn put_elsewhere(out: &mut [u8; FULL], at: usize, p: u8, o: u8, e: Remote) -> usize
     requires { ⌜ at + REMOTE-BYTES ≤ ROOM-FOR-ALL ⌝ }
-    ensures { λ r. ⌜ Put REMOTE-BYTES (row RemoteKind (p ∷ o ∷ e .rc ∷ e .parent ∷ one (e .presence) ∷ twosComplement (e .«msg_ctr» .0) ∷ e .«ref_weight» .0 ∷ []) ∷ []) (now (out .entry)) at (now (out .exit)) r ⌝ }
+    ensures { λ r. ⌜ Put REMOTE-BYTES (remoteRecord p o (Elsewhere e)) (now (out .entry)) at (now (out .exit)) r ⌝ }
 {
     let rc = e.rc;
     let present = one_if(e.presence);
@@ -91,7 +86,7 @@ fn put_remote(out: &mut [u8; FULL], at: usize, p: u8, o: u8, e: Entry) -> usize
 // constant, and reads a slot without a copy of its cell.
 pub(crate) fn put_cells(out: &mut [u8; FULL], from: usize, cells: [Cell; 64]) -> usize
     requires { ⌜ from + CELLS-BYTES ≤ ROOM-FOR-ALL ⌝ }
-    ensures { λ r. ⌜ Put CELLS-BYTES (gather OBJECTS (λ o. directoryRecord o (entryIn (cellIn cells o) (owner o))) ++ gather NODES (λ p. gather OBJECTS (λ o. remoteRecord p o (entryIn (cellIn cells o) p)))) (now (out .entry)) from (now (out .exit)) r ⌝ }
+    ensures { λ r. ⌜ Put CELLS-BYTES (cellsRecords cells) (now (out .entry)) from (now (out .exit)) r ⌝ }
 {
     let mut at = from;
     let mut p: u8 = 0;

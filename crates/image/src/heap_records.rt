@@ -7,11 +7,7 @@ use heap::Heap;
 use heap::Object;
 use heap::Roots;
 ghost use Prim.Native.Nat.{_+_, _≤_};
-ghost use mathlib.Core.List.{_++_};
-ghost use Rattle.terms.specs.Counted.{gather};
-ghost use Rattle.terms.specs.Limits.{NODES, OBJECTS};
-ghost use Rattle.heap.specs.Heap.{objectAt, rootsAt};
-ghost use Rattle.image.specs.Stored.{FULL as ROOM-FOR-ALL, OBJECT-BYTES, ROOTS-BYTES, HEAP-BYTES, Put, liveRecord, nodeRecord};
+ghost use Rattle.image.specs.Stored.{FULL as ROOM-FOR-ALL, OBJECT-BYTES, ROOTS-BYTES, HEAP-BYTES, Put, liveRecord, nodeRecord, heapRecords};
 
 const LIVE: u8 = 0x01;
 
@@ -46,7 +42,7 @@ fn put_roots(out: &mut [u8; FULL], at: usize, p: u8, x: Roots) -> usize
 // The live objects, then the roots of every node.
 pub(crate) fn put_heap(out: &mut [u8; FULL], from: usize, h: Heap) -> usize
     requires { ⌜ from + HEAP-BYTES ≤ ROOM-FOR-ALL ⌝ }
-    ensures { λ r. ⌜ Put HEAP-BYTES (gather OBJECTS (λ o. liveRecord o (objectAt h o)) ++ gather NODES (λ p. nodeRecord p (rootsAt h p))) (now (out .entry)) from (now (out .exit)) r ⌝ }
+    ensures { λ r. ⌜ Put HEAP-BYTES (heapRecords h) (now (out .entry)) from (now (out .exit)) r ⌝ }
 {
     let mut at = from;
     let mut o: u8 = 0;

@@ -9,14 +9,9 @@ use entry::Weight;
 use table::Message;
 use table::Place;
 use table::Table;
-ghost use mathlib.Core.List.{[], _∷_};
 ghost use Prim.Native.Nat.{_+_, _≤_};
-ghost use Rattle.terms.specs.Bytes.{twosComplement};
-ghost use Rattle.terms.specs.Counted.{gather};
-ghost use Rattle.terms.specs.Limits.{PLACES};
-ghost use Rattle.image.specs.declared.RecordKind.the-variants.{Reference, Decrement};
-ghost use Rattle.image.specs.Records.{row};
-ghost use Rattle.image.specs.Stored.{FULL as ROOM-FOR-ALL, MESSAGE-BYTES, AIR-BYTES, Put, placeIn};
+ghost use Rattle.table.specs.declared.Message.the-variants.{Reference, Decrement};
+ghost use Rattle.image.specs.Stored.{FULL as ROOM-FOR-ALL, MESSAGE-BYTES, AIR-BYTES, Put, airRecords};
 ghost use Rattle.image.specs.Writer.{messageRecord};
 
 const REFERENCE: u8 = 0x05;
@@ -29,7 +24,7 @@ const DECREMENT_PAYLOAD: u8 = 12;
 
 fn put_reference(out: &mut [u8; FULL], at: usize, s: u8, from: u8, to: u8, o: u8) -> usize
     requires { ⌜ at + MESSAGE-BYTES ≤ ROOM-FOR-ALL ⌝ }
-    ensures { λ r. ⌜ Put MESSAGE-BYTES (row Reference (s ∷ from ∷ to ∷ o ∷ []) ∷ []) (now (out .entry)) at (now (out .exit)) r ⌝ }
+    ensures { λ r. ⌜ Put MESSAGE-BYTES (messageRecord s (Reference from to o)) (now (out .entry)) at (now (out .exit)) r ⌝ }
 {
     let a = store_head(out, at, REFERENCE_PAYLOAD, REFERENCE);
     store_four(out, a, s, from, to, o)
@@ -46,7 +41,7 @@ fn put_decrement(
     n: Weight,
 ) -> usize
     requires { ⌜ at + MESSAGE-BYTES ≤ ROOM-FOR-ALL ⌝ }
-    ensures { λ r. ⌜ Put MESSAGE-BYTES (row Decrement (s ∷ from ∷ to ∷ o ∷ twosComplement (m .0) ∷ n .0 ∷ []) ∷ []) (now (out .entry)) at (now (out .exit)) r ⌝ }
+    ensures { λ r. ⌜ Put MESSAGE-BYTES (messageRecord s (Decrement from to o m n)) (now (out .entry)) at (now (out .exit)) r ⌝ }
 {
     let a = store_head(out, at, DECREMENT_PAYLOAD, DECREMENT);
     let b = store_four(out, a, s, from, to, o);
@@ -74,7 +69,7 @@ fn put_message(out: &mut [u8; FULL], at: usize, s: u8, m: Message) -> usize
 // The messages by place.
 pub(crate) fn put_air(out: &mut [u8; FULL], from: usize, air: [Place; 64]) -> usize
     requires { ⌜ from + AIR-BYTES ≤ ROOM-FOR-ALL ⌝ }
-    ensures { λ r. ⌜ Put AIR-BYTES (gather PLACES (λ s. messageRecord s (placeIn air s .held))) (now (out .entry)) from (now (out .exit)) r ⌝ }
+    ensures { λ r. ⌜ Put AIR-BYTES (airRecords air) (now (out .entry)) from (now (out .exit)) r ⌝ }
 {
     let mut at = from;
     let mut s: u8 = 0;

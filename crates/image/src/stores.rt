@@ -1,11 +1,10 @@
 // Bytes stored in the buffer where the image is made: each function hands back the place after them. Numbers are little-endian.
 use entry::ReturnCount;
 ghost use mathlib.Core.Path.{_≡_};
-ghost use mathlib.Core.List.{[], _∷_};
 ghost use Prim.Native.Nat.{_+_, _/_, _%_, _≤_};
 ghost use lib.ListN.{length};
-ghost use Rattle.terms.specs.Bytes.{bytesOf, packed, twosComplement, over};
-ghost use Rattle.image.specs.Stored.{FULL as ROOM-FOR-ALL, Stored};
+ghost use Rattle.terms.specs.Bytes.{bytesOf, twosComplement, over};
+ghost use Rattle.image.specs.Stored.{FULL as ROOM-FOR-ALL, Stored, four};
 
 // Room for a record of everything that could have one.
 pub(crate) const FULL: usize = 12788;
@@ -28,7 +27,7 @@ pub(crate) fn store_byte(out: &mut [u8; FULL], at: usize, a: u8) -> usize
 
 pub(crate) fn store_four(out: &mut [u8; FULL], at: usize, a: u8, b: u8, c: u8, d: u8) -> usize
     requires { ⌜ at + 4 ≤ ROOM-FOR-ALL ⌝ }
-    ensures { λ r. ⌜ Stored (now (out .entry)) at (packed (1 ∷ 1 ∷ 1 ∷ 1 ∷ []) (a ∷ b ∷ c ∷ d ∷ [])) (now (out .exit)) r ⌝ }
+    ensures { λ r. ⌜ Stored (now (out .entry)) at (four a b c d) (now (out .exit)) r ⌝ }
 {
     out[at] = a;
     out[at + 1] = b;
@@ -40,7 +39,7 @@ pub(crate) fn store_four(out: &mut [u8; FULL], at: usize, a: u8, b: u8, c: u8, d
 // The head of a record: the length of its payload, and its kind's number.
 pub(crate) fn store_head(out: &mut [u8; FULL], at: usize, payload: u8, kind: u8) -> usize
     requires { ⌜ at + 4 ≤ ROOM-FOR-ALL ⌝ }
-    ensures { λ r. ⌜ Stored (now (out .entry)) at (packed (1 ∷ 1 ∷ 1 ∷ 1 ∷ []) (payload ∷ 0 ∷ kind ∷ 1 ∷ [])) (now (out .exit)) r ⌝ }
+    ensures { λ r. ⌜ Stored (now (out .entry)) at (four payload 0 kind 1) (now (out .exit)) r ⌝ }
 {
     store_four(out, at, payload, 0, kind, KIND)
 }

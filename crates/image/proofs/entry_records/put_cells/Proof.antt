@@ -5,57 +5,47 @@ use Prim.Native.Nat.{ℕ, _-_, _*_, _≤_}
 use mathlib.Core.List.{List}
 use native.Mathlib.Omega.{arith}
 use Rattle.terms.specs.Counted.{gather}
-use Rattle.image.specs.Records.{Record}
 use Rattle.image.specs.StoredLaws.{put-start, put-more, put-both}
 use mathlib.Core.Path.{_≡_}
 use Rattle.terms.specs.Limits.{NODES, OBJECTS, OWNED, owner}
-use Rattle.table.specs.declared.Cell.{Cell}
-use Rattle.table.specs.Table.{entryIn}
-use Rattle.image.specs.Stored.{DIRECTORY-BYTES, REMOTE-BYTES, Put, cellIn}
-use Rattle.image.specs.Writer.{directoryRecord, remoteRecord}
+use Rattle.image.specs.Stored.{DIRECTORY-BYTES, REMOTE-BYTES, Put, directoryOf, remoteOf}
 use borrow.Author.Needs.{needs}
 use Rattle.image.proofs.entry_records.put_cells.Statement.{statement}
 use Rattle.image.proofs.entry_records.put_cells.Tie as tie
-
-abbrev directory : List Cell → ℕ → List Record
-directory cells = λ o. directoryRecord o (entryIn (cellIn cells o) (owner o))
-
-abbrev remote : List Cell → ℕ → ℕ → List Record
-remote cells p = λ o. remoteRecord p o (entryIn (cellIn cells o) p)
 
 abbrev Inv-loop2 : tie.InvT-loop2
 Inv-loop2 out₀ from cells at₀ p o₀ j end out at o =
     (o₀ ≤ o)
     × (o ≤ end)
-    × ((before : List ℕ) (first : ℕ) → Put (DIRECTORY-BYTES * o₀) (gather o₀ (directory cells)) before first out₀ at₀
-    → Put (DIRECTORY-BYTES * o) (gather o (directory cells)) before first out at)
+    × ((before : List ℕ) (first : ℕ) → Put (DIRECTORY-BYTES * o₀) (gather o₀ (directoryOf cells)) before first out₀ at₀
+    → Put (DIRECTORY-BYTES * o) (gather o (directoryOf cells)) before first out at)
 
 abbrev μ-loop2 : tie.MeasureT-loop2
 μ-loop2 out₀ from cells at₀ p o₀ j end out at o = end - o
 
 abbrev Inv-loop : tie.InvT-loop
 Inv-loop out₀ from cells at₀ p₀ o₀ out at p o =
-    (p ≤ NODES) × (o ≡ p * OWNED) × Put (DIRECTORY-BYTES * o) (gather o (directory cells)) out₀ at₀ out at
+    (p ≤ NODES) × (o ≡ p * OWNED) × Put (DIRECTORY-BYTES * o) (gather o (directoryOf cells)) out₀ at₀ out at
 
 abbrev μ-loop : tie.MeasureT-loop
 μ-loop out₀ from cells at₀ p₀ o₀ out at p o = NODES - p
 
 abbrev Inv-loop4 : tie.InvT-loop4
-Inv-loop4 out₀ from cells at₀ p o q j x₀ out at x = (x ≤ OBJECTS) × Put (REMOTE-BYTES * x) (gather x (remote cells q)) out₀ at₀ out at
+Inv-loop4 out₀ from cells at₀ p o q j x₀ out at x = (x ≤ OBJECTS) × Put (REMOTE-BYTES * x) (gather x (remoteOf cells q)) out₀ at₀ out at
 
 abbrev μ-loop4 : tie.MeasureT-loop4
 μ-loop4 out₀ from cells at₀ p o q j x₀ out at x = OBJECTS - x
 
 abbrev Inv-loop3 : tie.InvT-loop3
 Inv-loop3 out₀ from cells at₀ p o q₀ out at q =
-    (q ≤ NODES) × Put (REMOTE-BYTES * OBJECTS * q) (gather q (λ n. gather OBJECTS (remote cells n))) out₀ at₀ out at
+    (q ≤ NODES) × Put (REMOTE-BYTES * OBJECTS * q) (gather q (λ n. gather OBJECTS (remoteOf cells n))) out₀ at₀ out at
 
 abbrev μ-loop3 : tie.MeasureT-loop3
 μ-loop3 out₀ from cells at₀ p o q₀ out at q = NODES - q
 
 loop-holds :
     tie.Need-loop-holds Inv-loop2 μ-loop2 Inv-loop μ-loop Inv-loop4 μ-loop4 Inv-loop3 μ-loop3
-loop-holds c = (omega arith, omega arith, put-start DIRECTORY-BYTES (directory (c .args .t3)) _ _)
+loop-holds c = (omega arith, omega arith, put-start DIRECTORY-BYTES (directoryOf (c .args .t3)) _ _)
 
 cast-j : tie.Need-cast-j Inv-loop2 μ-loop2 Inv-loop μ-loop Inv-loop4 μ-loop4 Inv-loop3 μ-loop3
 cast-j c = search needs
@@ -131,11 +121,11 @@ loop2-again :
 loop2-again c =
     let inner = c .before .before .before .before .before .loop2 in
     let outer = c .before .before .before .before .before .before .before in
-    let own : owner (inner .o) ≡ outer .loop .p = omega (arith, inner .inv .0, outer .loop .inv .1) in (
+    let own : owner (inner .o) ≡ outer .loop .p = omega (arith, inner .inv .0, outer .loop .inv .1) in
+    let directory = rw (sym own) at (c .put-directory .ensures) in (
       omega arith,
       omega arith,
-      λ before first done.
-          put-more DIRECTORY-BYTES (directory (outer .before .args .t3)) (inner .o) (inner .inv .2 before first done) (rw (sym own) at (c .put-directory .ensures)),
+      λ before first done. put-more DIRECTORY-BYTES (directoryOf (outer .before .args .t3)) (inner .o) (inner .inv .2 before first done) directory,
     )
 
 add-p : tie.Need-add-p Inv-loop2 μ-loop2 Inv-loop μ-loop Inv-loop4 μ-loop4 Inv-loop3 μ-loop3
@@ -147,18 +137,21 @@ loop-less c = omega arith
 
 loop-again :
     tie.Need-loop-again Inv-loop2 μ-loop2 Inv-loop μ-loop Inv-loop4 μ-loop4 Inv-loop3 μ-loop3
-loop-again c = (omega arith, omega (arith, c .before .loop2 .inv .1, c .before .before .before .loop .inv .1), c .before .loop2 .inv .2 _ _ (c .before .before .before .loop .inv .2))
+loop-again c =
+    let inner = c .before .loop2 in
+    let outer = c .before .before .before .loop in
+    (omega arith, omega (arith, inner .inv .1, outer .inv .1), inner .inv .2 _ _ (outer .inv .2))
 
 loop3-holds :
     tie.Need-loop3-holds Inv-loop2 μ-loop2 Inv-loop μ-loop Inv-loop4 μ-loop4 Inv-loop3 μ-loop3
-loop3-holds c = (omega arith, put-start (REMOTE-BYTES * OBJECTS) (λ n. gather OBJECTS (remote (c .before .before .args .t3) n)) _ _)
+loop3-holds c = (omega arith, put-start (REMOTE-BYTES * OBJECTS) (λ n. gather OBJECTS (remoteOf (c .before .before .args .t3) n)) _ _)
 
 cast-j-2 : tie.Need-cast-j-2 Inv-loop2 μ-loop2 Inv-loop μ-loop Inv-loop4 μ-loop4 Inv-loop3 μ-loop3
 cast-j-2 c = search needs
 
 loop4-holds :
     tie.Need-loop4-holds Inv-loop2 μ-loop2 Inv-loop μ-loop Inv-loop4 μ-loop4 Inv-loop3 μ-loop3
-loop4-holds c = (omega arith, put-start REMOTE-BYTES (remote (c .before .before .before .before .args .t3) (c .before .loop3 .q)) _ _)
+loop4-holds c = (omega arith, put-start REMOTE-BYTES (remoteOf (c .before .before .before .before .args .t3) (c .before .loop3 .q)) _ _)
 
 cast-k-2 : tie.Need-cast-k-2 Inv-loop2 μ-loop2 Inv-loop μ-loop Inv-loop4 μ-loop4 Inv-loop3 μ-loop3
 cast-k-2 c = search needs
@@ -223,7 +216,8 @@ loop4-again :
 loop4-again c =
     let inner = c .before .before .before .before .before .loop4 in
     let outer = c .before .before .before .before .before .before .before in
-    (omega arith, put-more REMOTE-BYTES (remote (outer .before .before .before .args .t3) (outer .loop3 .q)) (inner .x) (inner .inv .1) (c .put-remote .ensures))
+    let cells = outer .before .before .before .args .t3 in
+    (omega arith, put-more REMOTE-BYTES (remoteOf cells (outer .loop3 .q)) (inner .x) (inner .inv .1) (c .put-remote .ensures))
 
 add-q : tie.Need-add-q Inv-loop2 μ-loop2 Inv-loop μ-loop Inv-loop4 μ-loop4 Inv-loop3 μ-loop3
 add-q c = search needs
@@ -239,7 +233,8 @@ loop3-again c =
     let outer = c .before .before .before in
     let cells = outer .before .before .before .args .t3 in
     let all : inner .x ≡ OBJECTS = omega arith in
-    (omega arith, put-more (REMOTE-BYTES * OBJECTS) (λ n. gather OBJECTS (remote cells n)) (outer .loop3 .q) (outer .loop3 .inv .1) (rw all at (inner .inv .1)))
+    let node = rw all at (inner .inv .1) in
+    (omega arith, put-more (REMOTE-BYTES * OBJECTS) (λ p. gather OBJECTS (remoteOf cells p)) (outer .loop3 .q) (outer .loop3 .inv .1) node)
 
 returns : tie.Need-returns Inv-loop2 μ-loop2 Inv-loop μ-loop Inv-loop4 μ-loop4 Inv-loop3 μ-loop3
 returns c =

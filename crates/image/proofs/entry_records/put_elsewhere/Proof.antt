@@ -36,10 +36,18 @@ store-number-requires-2 c κs = search needs
 returns : tie.Need-returns
 unfolding bytesOfAll
 returns c =
-    let keys = stored-both (stored-both (c .before .before .before .before .before .before .before .before .before .before .before .before .before .before .store-head .ensures) (c .before .before .before .before .before .before .before .before .before .before .before .before .store-byte .ensures)) (c .before .before .before .before .before .before .before .before .before .before .store-byte2 .ensures) in
-    let parent = stored-both (stored-both keys (c .before .before .before .before .before .before .before .before .store-number .ensures)) (c .before .before .before .before .before .before .store-byte3 .ensures) in
-    let present = stored-both parent (rw (c .before .before .before .before .before .before .before .before .before .before .before .before .before .before .before .before .before .before .one-if .ensures) at (c .before .before .before .before .store-byte4 .ensures)) in
-    let all = stored-both (stored-both present (c .before .before .store-returns .ensures)) (c .store-number2 .ensures) in
+    let returned = c .before .before in
+    let present = returned .before .before in
+    let parent = present .before .before in
+    let count = parent .before .before in
+    let object = count .before .before in
+    let node = object .before .before in
+    let head = node .before .before in
+    let told = head .before .before .before .before in
+    let keys = stored-both (stored-both (head .store-head .ensures) (node .store-byte .ensures)) (object .store-byte2 .ensures) in
+    let front = stored-both (stored-both keys (count .store-number .ensures)) (parent .store-byte3 .ensures) in
+    let middle = stored-both front (rw (told .one-if .ensures) at (present .store-byte4 .ensures)) in
+    let all = stored-both (stored-both middle (returned .store-returns .ensures)) (c .store-number2 .ensures) in
     record { stored = all; small = omega (arith, all .place) }
 
 pub put-elsewhere-spec : {M : Type 1} → statement M

@@ -21,8 +21,11 @@ store-returns-requires c κs = search needs
 returns : tie.Need-returns
 unfolding bytesOfAll
 returns c =
-    let front = stored-both (c .before .before .before .before .before .before .store-head .ensures) (c .before .before .before .before .store-byte .ensures) in
-    let all = stored-both (stored-both front (c .before .before .store-number .ensures)) (c .store-returns .ensures) in
+    let count = c .before .before in
+    let object = count .before .before in
+    let head = object .before .before in
+    let front = stored-both (head .store-head .ensures) (object .store-byte .ensures) in
+    let all = stored-both (stored-both front (count .store-number .ensures)) (c .store-returns .ensures) in
     record { stored = all; small = omega (arith, all .place) }
 
 pub put-owners-spec : {M : Type 1} → statement M

@@ -71,7 +71,10 @@ element-copy-out-x-2 : tie.Need-element-copy-out-x-2 Inv-loop μ-loop Inv-loop2 
 element-copy-out-x-2 c = search needs
 
 put-roots-requires : tie.Need-put-roots-requires Inv-loop μ-loop Inv-loop2 μ-loop2
-put-roots-requires c κs = omega (arith, c .before .before .before .loop2 .inv .1 .small, c .before .before .before .before .before .loop .inv .1 .small, c .before .before .before .before .before .before .pre)
+put-roots-requires c κs =
+    let nodes = c .before .before .before in
+    let objects = nodes .before .before in
+    omega (arith, nodes .loop2 .inv .1 .small, objects .loop .inv .1 .small, objects .before .pre)
 
 add-p : tie.Need-add-p Inv-loop μ-loop Inv-loop2 μ-loop2
 add-p c = search needs

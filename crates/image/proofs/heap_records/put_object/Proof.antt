@@ -34,8 +34,11 @@ store-four-requires c κs = search needs
 returns-2 : tie.Need-returns-2
 unfolding bytesOfAll
 returns-2 c =
-    let all = stored-both (stored-both (c .before .before .before .before .before .before .before .before .store-head .ensures) (c .before .before .before .before .before .before .store-byte .ensures)) (c .store-four .ensures) in
-    rw (not-false (c .before .before .before .before .before .before .before .before .before .before .before .args .t4 .live) (c .before .before .before .before .before .before .before .before .before .before .if1 .left)) (record { stored = all; small = omega (arith, all .place) })
+    let number = c .before .before .before .before .before .before in
+    let head = number .before .before in
+    let branch = head .before .before in
+    let all = stored-both (stored-both (head .store-head .ensures) (number .store-byte .ensures)) (c .store-four .ensures) in
+    rw (not-false (branch .before .args .t4 .live) (branch .if1 .left)) (record { stored = all; small = omega (arith, all .place) })
 
 pub put-object-spec : {M : Type 1} → statement M
 put-object-spec =

@@ -45,8 +45,11 @@ store-four-requires-2 c κs = search needs
 returns : tie.Need-returns
 unfolding bytesOfAll
 returns c =
-    let low = stored-both (stored-both (c .before .before .before .before .before .before .before .before .before .before .before .before .before .before .store-head .ensures) (c .before .before .before .before .before .before .before .before .before .before .before .before .store-byte .ensures)) (c .before .before .before .before .before .before .store-four .ensures) in
-    let all = stored-both low (c .store-four2 .ensures) in
+    let low = c .before .before .before .before .before .before in
+    let number = low .before .before .before .before .before .before in
+    let head = number .before .before in
+    let front = stored-both (stored-both (head .store-head .ensures) (number .store-byte .ensures)) (low .store-four .ensures) in
+    let all = stored-both front (c .store-four2 .ensures) in
     record { stored = all; small = omega (arith, all .place) }
 
 pub put-roots-spec : {M : Type 1} → statement M

@@ -1,30 +1,23 @@
 -- `image::message_records::put_air` puts the messages. The loop's invariant: what is passed so far is put. Assumes nothing.
 use mathlib.Core.Path.{_≡_}
-use Prim.Native.Nat.{ℕ, _-_, _*_, _≤_}
-use mathlib.Core.List.{List}
+use Prim.Native.Nat.{_-_, _*_, _≤_}
 use native.Mathlib.Omega.{arith}
 use Rattle.terms.specs.Counted.{gather}
-use Rattle.image.specs.Records.{Record}
 use Rattle.image.specs.StoredLaws.{put-start, put-more}
 use Rattle.terms.specs.Limits.{PLACES}
-use Rattle.table.specs.declared.Place.{Place}
-use Rattle.image.specs.Stored.{MESSAGE-BYTES, Put, placeIn}
-use Rattle.image.specs.Writer.{messageRecord}
+use Rattle.image.specs.Stored.{MESSAGE-BYTES, Put, messageOf}
 use borrow.Author.Needs.{needs}
 use Rattle.image.proofs.message_records.put_air.Statement.{statement}
 use Rattle.image.proofs.message_records.put_air.Tie as tie
 
-abbrev message : List Place → ℕ → List Record
-message air = λ s. messageRecord s (placeIn air s .held)
-
 abbrev Inv-loop : tie.InvT-loop
-Inv-loop out₀ from air at₀ s₀ out at s = (s ≤ PLACES) × Put (MESSAGE-BYTES * s) (gather s (message air)) out₀ at₀ out at
+Inv-loop out₀ from air at₀ s₀ out at s = (s ≤ PLACES) × Put (MESSAGE-BYTES * s) (gather s (messageOf air)) out₀ at₀ out at
 
 abbrev μ-loop : tie.MeasureT-loop
 μ-loop out₀ from air at₀ s₀ out at s = PLACES - s
 
 loop-holds : tie.Need-loop-holds Inv-loop μ-loop
-loop-holds c = (omega arith, put-start MESSAGE-BYTES (message (c .args .t3)) _ _)
+loop-holds c = (omega arith, put-start MESSAGE-BYTES (messageOf (c .args .t3)) _ _)
 
 cast-k : tie.Need-cast-k Inv-loop μ-loop
 cast-k c = search needs
@@ -47,7 +40,7 @@ loop-less c = omega arith
 loop-again : tie.Need-loop-again Inv-loop μ-loop
 loop-again c =
     let h = c .before .before .before .before in
-    (omega arith, put-more MESSAGE-BYTES (message (h .before .args .t3)) (h .loop .s) (h .loop .inv .1) (c .put-message .ensures))
+    (omega arith, put-more MESSAGE-BYTES (messageOf (h .before .args .t3)) (h .loop .s) (h .loop .inv .1) (c .put-message .ensures))
 
 returns : tie.Need-returns Inv-loop μ-loop
 returns c =

@@ -21,8 +21,11 @@ store-number-requires c κs = search needs
 returns : tie.Need-returns
 unfolding bytesOfAll
 returns c =
-    let front = stored-both (c .before .before .before .before .before .before .store-head .ensures) (c .before .before .before .before .store-four .ensures) in
-    let all = stored-both (stored-both front (c .before .before .store-returns .ensures)) (c .store-number .ensures) in
+    let returned = c .before .before in
+    let way = returned .before .before in
+    let head = way .before .before in
+    let front = stored-both (head .store-head .ensures) (way .store-four .ensures) in
+    let all = stored-both (stored-both front (returned .store-returns .ensures)) (c .store-number .ensures) in
     record { stored = all; small = omega (arith, all .place) }
 
 pub put-decrement-spec : {M : Type 1} → statement M

@@ -23,14 +23,17 @@ store-four-requires c κs = search needs
 
 returns : tie.Need-returns
 returns c =
-    let x = c .before .before .before .before .before .before .args .x in
-    let a : x % 256 < 256 = omega arith in
-    let b : x / 256 % 256 < 256 = omega arith in
-    let c2 : x / 256 / 256 % 256 < 256 = omega arith in
-    let d : x / 256 / 256 / 256 % 256 < 256 = omega arith in
-    rw
-    (c .before .before .before .before .before .byte-0 .ensures, c .before .before .before .before .byte-1 .ensures, c .before .before .before .byte-2 .ensures, c .before .before .byte-3 .ensures, mod-eq-of-lt a, mod-eq-of-lt b, mod-eq-of-lt c2, mod-eq-of-lt d)
-    at (c .store-four .ensures)
+    let b3 = c .before .before in
+    let b2 = b3 .before in
+    let b1 = b2 .before in
+    let b0 = b1 .before in
+    let x = b0 .before .args .x in
+    let s0 : x % 256 < 256 = omega arith in
+    let s1 : x / 256 % 256 < 256 = omega arith in
+    let s2 : x / 256 / 256 % 256 < 256 = omega arith in
+    let s3 : x / 256 / 256 / 256 % 256 < 256 = omega arith in
+    let bytes = rw (b0 .byte-0 .ensures, b1 .byte-1 .ensures, b2 .byte-2 .ensures, b3 .byte-3 .ensures) at (c .store-four .ensures) in
+    rw (mod-eq-of-lt s0, mod-eq-of-lt s1, mod-eq-of-lt s2, mod-eq-of-lt s3) at bytes
 
 pub store-number-spec : {M : Type 1} → statement M
 store-number-spec =

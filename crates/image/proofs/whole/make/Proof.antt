@@ -25,8 +25,15 @@ store-head-requires-2 c κs = search needs
 
 returns : tie.Need-returns
 returns c =
-    let count = stored-both (c .before .before .before .before .before .before .before .before .before .before .store-head .ensures) (c .before .before .before .before .before .before .before .before .store-number .ensures) in
-    made-is (c .before .before .before .before .before .before .before .before .before .before .before .before .before .before .before .args .t) count (c .before .before .before .before .before .before .put-heap .ensures) (c .before .before .before .before .put-cells .ensures) (c .before .before .put-air .ensures) (c .store-head2 .ensures) (c .before .before .before .before .before .before .before .before .before .before .before .before .before .before .before .pre)
+    let air = c .before .before in
+    let cells = air .before .before in
+    let heap = cells .before .before in
+    let number = heap .before .before in
+    let head = number .before .before in
+    let start = head .before .before .before .before .before in
+    let count = stored-both (head .store-head .ensures) (number .store-number .ensures) in
+    let end = c .store-head2 .ensures in
+    made-is (start .args .t) count (heap .put-heap .ensures) (cells .put-cells .ensures) (air .put-air .ensures) end (start .pre)
 
 pub make-spec : {M : Type 1} → statement M
 make-spec =
