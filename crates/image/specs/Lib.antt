@@ -12,6 +12,7 @@ pub mod RoundTrip
 pub mod Sizes
 pub mod Spots
 pub mod Stages
-pub mod Things
+pub mod Stored
+pub mod StoredLaws
 pub mod Unique
 pub mod Writer

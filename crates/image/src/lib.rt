@@ -1,11 +1,14 @@
 // The saved image of a table. The types that the reader hands back, and the writer; what is read and written stands in specs/.
 mod contents; // contents.rt: what the records hold that are read
+mod entry_records; // entry_records.rt: the records of directories and of other entries
 mod frames; // frames.rt: the frame of a record that is read
 mod fronts; // fronts.rt: the record at the front of the bytes that are read
+mod heap_records; // heap_records.rt: the records of live objects and of roots
+mod message_records; // message_records.rt: the records of the messages in the air
 mod numbers; // numbers.rt: numbers in bytes
 mod orders; // orders.rt: the order of the records that are read
-mod passes; // passes.rt: all records, counted and written
-mod pieces; // pieces.rt: the bytes of each record
+mod stores; // stores.rt: bytes stored one behind the other
+mod whole; // whole.rt: the whole image, section by section
 
 use contents::decrement_in;
 use contents::object_in;
@@ -17,13 +20,13 @@ use frames::HEAD;
 use fronts::front_of;
 use heap::Heap;
 use numbers::number_at;
-use passes::put_all;
-use passes::size;
+use stores::FULL;
+use stores::copy;
 use table::Table;
+use whole::make;
 ghost use mathlib.Core.Path.{_≡_};
 ghost use Rattle.image.specs.Reader.{read};
-ghost use Rattle.image.specs.Things.{writeLength};
-ghost use Rattle.image.specs.Writer.{writeAnswer, writeBytes};
+ghost use Rattle.image.specs.Writer.{putAnswer, putLength, putBytes, writeAnswer, writeLength, writeBytes};
 
 // The answer is 0 or the refusal's number; refused, the table is the fresh one.
 pub struct Loaded {
@@ -35,12 +38,6 @@ pub struct Loaded {
 pub struct Written {
     pub answer: u8,
     pub length: usize,
-}
-
-// The bytes of a record, or none: the first `length`.
-pub struct Piece {
-    pub length: usize,
-    pub bytes: [u8; 20],
 }
 
 // The kinds of record.
@@ -106,6 +103,28 @@ impl Written {
     pub const ROOM: u8 = 26;
 }
 
+// The image of any table at the front of out; with too little room out is as it was. Whoever knows that the table has the shape calls this, and
+// saves the test. The image is made in a buffer of its own, so that one pass over the table is enough.
+pub fn put_image(t: Table, out: &mut [u8]) -> Written
+    ensures answer { λ r. ⌜ r .answer ≡ putAnswer t (now (out .entry)) ⌝ }
+    ensures length { λ r. ⌜ r .length ≡ putLength t (now (out .entry)) ⌝ }
+    ensures bytes { λ r. ⌜ now (out .exit) ≡ putBytes t (now (out .entry)) ⌝ }
+{
+    let mut made = [0u8; FULL];
+    let length = make(&mut made, t);
+    if out.len() < length {
+        return Written {
+            answer: Written::ROOM,
+            length: 0,
+        };
+    }
+    copy(out, &made[..length]);
+    Written {
+        answer: Written::ACCEPTED,
+        length: length,
+    }
+}
+
 // The image of the table at the front of out. For a table that breaks the shape, or with too little room, out is as it was.
 pub fn write(t: Table, out: &mut [u8]) -> Written
     ensures answer { λ r. ⌜ r .answer ≡ writeAnswer t (now (out .entry)) ⌝ }
@@ -118,18 +137,7 @@ pub fn write(t: Table, out: &mut [u8]) -> Written
             length: 0,
         };
     }
-    let length = size(t);
-    if out.len() < length {
-        return Written {
-            answer: Written::ROOM,
-            length: 0,
-        };
-    }
-    put_all(t, out);
-    Written {
-        answer: Written::ACCEPTED,
-        length: length,
-    }
+    put_image(t, out)
 }
 
 // The table whose image the bytes are, or the first refusal. Each record goes into a table of this function's own, since a call would copy
