@@ -12,9 +12,6 @@ ghost use mathlib.Core.Path.{_≡_};
 ghost use Prim.Native.Nat.{_+_, _*_, _≤_};
 ghost use Rattle.etzvanul.specs.HostCall.{numberOfCall, hostNumber, hostBytes, startNumber, startBytes, checkNumber, depthCall};
 
-// An image has no more bytes.
-const MOST: usize = 12788;
-
 // Where the value and the length of the new image begin in the number.
 const VALUE: u64 = 256;
 

@@ -25,7 +25,9 @@ use stores::copy;
 use table::Table;
 use whole::make;
 ghost use mathlib.Core.Path.{_≡_};
+ghost use Prim.Native.Nat.{_≤_};
 ghost use Rattle.image.specs.Reader.{read};
+ghost use Rattle.image.specs.Stored.{FULL as ROOM-FOR-ALL};
 ghost use Rattle.image.specs.Writer.{putAnswer, putLength, putBytes, writeAnswer, writeLength, writeBytes};
 
 // The answer is 0 or the refusal's number; refused, the table is the fresh one.
@@ -109,6 +111,7 @@ pub fn put_image(t: Table, out: &mut [u8]) -> Written
     ensures answer { λ r. ⌜ r .answer ≡ putAnswer t (now (out .entry)) ⌝ }
     ensures length { λ r. ⌜ r .length ≡ putLength t (now (out .entry)) ⌝ }
     ensures bytes { λ r. ⌜ now (out .exit) ≡ putBytes t (now (out .entry)) ⌝ }
+    ensures small { λ r. ⌜ r .length ≤ ROOM-FOR-ALL ⌝ }
 {
     let mut made = [0u8; FULL];
     let length = make(&mut made, t);

@@ -21,7 +21,7 @@ unfolding putAnswer putLength putBytes
 returns c =
     let a = c .before .before .before .before .args in
     let short = lt-ltb (length (a .out .now)) (length (image (a .t))) (omega (arith, c .before .make .ensures .size, c .if1 .taken)) in
-    (simp short, (simp short, simp short))
+    (simp short, (simp short, (simp short, omega arith)))
 
 array-share-prefix-made : tie.Need-array-share-prefix-made
 array-share-prefix-made c = let m = c .before .before .make .ensures in omega (arith, m .small, m .whole)
@@ -47,7 +47,7 @@ returns-2 c =
     let a = c .before .before .before .before .before .before .before .before .before .args in
     let room = le-ltb (length (a .out .now)) (length (image (a .t))) (omega (arith, m .size, c .before .before .before .before .before .if1 .left)) in
     let bytes = c .before .before .copy .ensures ∙ ap (λ (v : List ℕ). over v (a .out .now)) (m .front) in
-    (simp room, (m .size ∙ simp room, bytes ∙ simp room))
+    (simp room, (m .size ∙ simp room, (bytes ∙ simp room, m .small)))
 
 pub put-image-spec : {M : Type 1} → statement M
 put-image-spec =

@@ -27,7 +27,7 @@ returns-2 c =
     let put = c .before .before .put-image .ensures in
     let branch = c .before .before .before .before in
     let good = sym (branch .before .fits2 .ensures) ∙ not-false _ (branch .if1 .left) in
-    (put .0 ∙ simp good, (put .1 .0 ∙ simp good, put .1 .1 ∙ simp good))
+    (put .0 ∙ simp good, (put .1 .0 ∙ simp good, put .1 .1 .0 ∙ simp good))
 
 pub write-spec : {M : Type 1} → statement M
 write-spec = tie.close (tie.spec fits-requires returns put-image-requires same-length returns-2)
