@@ -6,11 +6,13 @@ use Prim.Native.Nat.{ℕ, _+_, _*_}
 use lib.Dec.{eqb, ltb}
 use lib.ListN.{length}
 use Rattle.terms.specs.Bytes.{over}
-use Rattle.terms.specs.Choose.{Refusal, _when_, answered}
+use Rattle.terms.specs.Choose.{Refusal, if_then_else_, _when_, answered}
 use Rattle.terms.specs.Numbers.{ACCEPTED, EVENT, ROOM}
 use Rattle.step.specs.declared.Outcome.{Outcome}
 use Rattle.step.specs.Outcome.{valueOf}
 use Rattle.step.specs.Step.{step}
+use Rattle.table.specs.Depth.{depthReport}
+use Rattle.table.specs.Table.{freshTable}
 use Rattle.image.specs.declared.Loaded.{Loaded}
 use Rattle.image.specs.Reader.{read}
 use Rattle.image.specs.Writer.{image}
@@ -64,3 +66,27 @@ hostNumber old event out = numberIn (called old event out)
 
 unfoldable pub hostBytes : List ℕ → List ℕ → List ℕ → List ℕ
 hostBytes old event out = bufferIn (called old event out) out
+
+-- ---- the other calls of a host
+
+-- a refusal or nothing, with a value
+abbrev pub valued : ℕ → ℕ → ℕ
+valued answer value = numberOfCall answer (if eqb answer ACCEPTED then value else 0) 0
+
+-- where a host starts: the image of the fresh table, unless the buffer is too short
+unfoldable pub startCall : List ℕ → Called
+startCall out = answered refusedCall ((ROOM when ltb (length out) (length (image freshTable))) ∷ []) (done 0 (image freshTable))
+
+unfoldable pub startNumber : List ℕ → ℕ
+startNumber out = numberIn (startCall out)
+
+unfoldable pub startBytes : List ℕ → List ℕ
+startBytes out = bufferIn (startCall out) out
+
+-- whether the image is accepted: the reader's answer alone
+unfoldable pub checkNumber : List ℕ → ℕ
+checkNumber old = read old .answer
+
+-- how far the owner of an object is from a node; a refused image has no depth
+unfoldable pub depthCall : List ℕ → ℕ → ℕ → ℕ
+depthCall old node object = valued (read old .answer) (depthReport (read old .table) node object)

@@ -1,2 +1,7 @@
 pub mod Bits
-pub mod Numbered
+pub mod Fronting
+pub mod InOrder
+pub mod Layers
+pub mod Places
+pub mod Reading
+pub mod Signs

@@ -2,6 +2,7 @@ pub mod BytesLaws
 pub mod CellLaws
 pub mod Content
 pub mod ContentLaws
+pub mod Front
 pub mod Keeps
 pub mod Order
 pub mod ReadLaws
@@ -11,6 +12,7 @@ pub mod RoundTrip
 pub mod Sizes
 pub mod Spots
 pub mod Stages
-pub mod Things
+pub mod Stored
+pub mod StoredLaws
 pub mod Unique
 pub mod Writer

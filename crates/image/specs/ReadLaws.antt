@@ -232,12 +232,12 @@ abbrev pub ReadOff : Turn → Table → List ℕ → Table → Type 0
 ReadOff now t l u = (rs : List Record) × (bytesOfAll rs ≡ l) × Reads now t rs u
 
 -- no refusal of the list applies
-abbrev NoneApplies : List Refusal → Type 0
+abbrev pub NoneApplies : List Refusal → Type 0
 NoneApplies [] = Unit
 NoneApplies (r ∷ rs) = (r .applies ≡ false) × NoneApplies rs
 
 -- no refusal has the number of acceptance
-abbrev Refusing : List Refusal → Type 0
+abbrev pub Refusing : List Refusal → Type 0
 Refusing [] = Unit
 Refusing (r ∷ rs) = (0 < r .number) × Refusing rs
 
@@ -258,7 +258,7 @@ no-length : (l : List ℕ) → ltb 0 (length l) ≡ false → l ≡ []
 no-length [] e = refl
 no-length (x ∷ l) e = absurd (omega (arith, ltb-false 0 (suc (length l)) e))
 
-is-end : (k : RecordKind) → isEnd k ≡ true → k ≡ End
+pub is-end : (k : RecordKind) → isEnd k ≡ true → k ≡ End
 is-end Count e = absurd (false≢true e)
 is-end Live e = absurd (false≢true e)
 is-end NodeRoots e = absurd (false≢true e)

@@ -68,13 +68,30 @@ image t = bytesOfAll (recordsOf t)
 
 -- ---- a lent buffer
 
+-- why the bytes of a table are not put: the shape isn't asked
+abbrev pub putRefusals : Table → List ℕ → List Refusal
+putRefusals t out = (ROOM when ltb (length out) (length (image t))) ∷ []
+
 -- why nothing is written
 abbrev pub writeRefusals : Table → List ℕ → List Refusal
 writeRefusals t out = (SHAPE when not (fitsTable t)) ∷ (ROOM when ltb (length out) (length (image t))) ∷ []
 
+unfoldable pub putAnswer : Table → List ℕ → ℕ
+putAnswer t out = answered (λ number. number) (putRefusals t out) ACCEPTED
+
 unfoldable pub writeAnswer : Table → List ℕ → ℕ
 writeAnswer t out = answered (λ number. number) (writeRefusals t out) ACCEPTED
 
+-- the length of what was written; refused, nothing was
+unfoldable pub putLength : Table → List ℕ → ℕ
+putLength t out = answered (λ number. 0) (putRefusals t out) (length (image t))
+
+unfoldable pub writeLength : Table → List ℕ → ℕ
+writeLength t out = answered (λ number. 0) (writeRefusals t out) (length (image t))
+
 -- the buffer afterwards
+unfoldable pub putBytes : Table → List ℕ → List ℕ
+putBytes t out = answered (λ number. out) (putRefusals t out) (over (image t) out)
+
 unfoldable pub writeBytes : Table → List ℕ → List ℕ
 writeBytes t out = answered (λ number. out) (writeRefusals t out) (over (image t) out)

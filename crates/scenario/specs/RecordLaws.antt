@@ -1,20 +1,18 @@
--- Laws of specs/Records.antt: the bytes of a record and its way back to the event, lengths, stores of bytes in a buffer, and that what is
--- written fits. Assumes nothing.
-use mathlib.Core.Path.{_≡_, refl, sym, _∙_}
+-- Laws of specs/Records.antt: the bytes of a record and its way back to the event, lengths, and that what is written fits. Assumes nothing.
+use mathlib.Core.Path.{_≡_, refl, _∙_}
 use mathlib.Core.Bool.{Bool, true, false}
 use mathlib.Core.List.{List, [], _∷_, _++_, append-nil, append-assoc}
-use Prim.Native.Nat.{ℕ, suc, _+_, _*_, _/_, _%_, _<_, _≤_}
-use native.Mathlib.Nat.{mod-eq-of-lt, add-suc, suc-add, add-zero, zero-add}
+use Prim.Native.Nat.{ℕ, _+_, _*_, _/_, _%_, _<_, _≤_}
+use native.Mathlib.Nat.{mod-eq-of-lt}
 use native.Mathlib.Omega.{arith}
 use borrow.Author.Tests.{ltb-false}
 use lib.Dec.{ltb}
-use lib.ListN.{length, set, length-append}
-use lib.Seq.{sets, sets-eq}
+use lib.ListN.{length, length-append}
 use Rattle.terms.specs.Choose.{if_then_else_}
 use Rattle.step.specs.declared.Event.{Event}
 use Rattle.step.specs.EventRecord.{OPERANDS, RECORD, eventIn, isRecord}
 use Rattle.scenario.specs.Text.{Meaning, tells, badAt, meaningOf}
-use Rattle.scenario.specs.Records.{recordOf, recordsOf, over, answer, answered, writtenOf}
+use Rattle.scenario.specs.Records.{recordOf, recordsOf, answer, answered, writtenOf}
 
 module _ (e : Event) (kind : e .kind < 65536) (a : e .a < 256) (b : e .b < 256) (c : e .c < 256) (d : e .d < 256) where
   -- the bytes of a record, one by one
@@ -57,20 +55,6 @@ pub records-length : (es : List Event) → length (recordsOf es) ≡ RECORD * le
 unfolding recordsOf
 records-length [] = refl
 records-length (e ∷ es) = length-append (recordOf e) (recordsOf es) ∙ omega (arith, record-length e, records-length es)
-
--- a run of stores is its first part and then its second
-pub sets-append : (l : List ℕ) (i : ℕ) (vs ws : List ℕ) → sets l i (vs ++ ws) ≡ sets (sets l i vs) (i + length vs) ws
-sets-append l i [] ws = rw add-zero
-sets-append l i (v ∷ vs) ws = sets-append (set l i v) (suc i) vs ws ∙ rw (add-suc, suc-add)
-
--- stores from the front
-pub sets-front : (l vs : List ℕ) → length vs ≤ length l → sets l 0 vs ≡ over vs l
-sets-front l vs le = sets-eq vs l 0 (omega arith) ∙ rw zero-add
-
--- v is stored, w is left: the whole is what it was
-module _ (out v w : List ℕ) (to : ℕ) where
-  pub stored-more : {out′ whole : List ℕ} {to′ : ℕ} → sets out to (v ++ w) ≡ whole → out′ ≡ sets out to v → to′ ≡ to + length v → sets out′ to′ w ≡ whole
-  stored-more h e f = rw (e, f) (sym (sets-append out to v w) ∙ h)
 
 -- the length that is answered is at most the buffer's
 pub written-fits : (text : List ℕ) (room : ℕ) → writtenOf text room .length ≤ room

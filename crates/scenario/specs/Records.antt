@@ -3,8 +3,8 @@
 use mathlib.Core.List.{List, [], _∷_, _++_}
 use Prim.Native.Nat.{ℕ}
 use lib.Dec.{ltb}
-use lib.ListN.{length, drop}
-use Rattle.terms.specs.Bytes.{packed}
+use lib.ListN.{length}
+use Rattle.terms.specs.Bytes.{over, packed}
 use Rattle.terms.specs.Choose.{if_then_else_}
 use Rattle.terms.specs.Numbers.{ACCEPTED, EVENT, ROOM}
 use Rattle.step.specs.declared.Event.{Event}
@@ -29,10 +29,6 @@ recordsIn line = recordsOf (eventsIn line)
 -- the records of a text's events
 abbrev pub textRecords : List ℕ → List ℕ
 textRecords text = recordsOf (eventsOf (linesOf text))
-
--- bytes over the front of a buffer; what stands past them stays
-abbrev pub over : List ℕ → List ℕ → List ℕ
-over bytes buffer = bytes ++ drop (length bytes) buffer
 
 abbrev pub answer : ℕ → ℕ → ℕ → Written
 answer number length line = record { answer = number; length = length; line = line }

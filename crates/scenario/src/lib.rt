@@ -8,9 +8,10 @@ ghost use mathlib.Core.Path.{_≡_};
 ghost use Prim.Native.Nat.{_+_, _<_, _≤_};
 ghost use lib.ListN.{length};
 ghost use lib.Seq.{sets};
+ghost use Rattle.terms.specs.Bytes.{over};
 ghost use Rattle.step.specs.EventRecord.{RECORD as RECORD-BYTES};
 ghost use Rattle.scenario.specs.Text.{isBad, eventsIn, LineEnds, Checks};
-ghost use Rattle.scenario.specs.Records.{recordOf, recordsIn, textRecords, over, writtenOf, bufferOf};
+ghost use Rattle.scenario.specs.Records.{recordOf, recordsIn, textRecords, writtenOf, bufferOf};
 
 // What a line means.
 pub enum Line {

@@ -10,7 +10,7 @@ use Rattle.scenario.specs.Text.{linesOf, eventsOf}
 use Rattle.scenario.specs.Records.{recordsOf, recordsIn, textRecords}
 use Rattle.scenario.proofs.ByteLaws.{none-left}
 use Rattle.scenario.proofs.LineLaws.{first-records, first-size}
-use Rattle.scenario.specs.RecordLaws.{sets-front, stored-more}
+use Rattle.terms.specs.BufferLaws.{sets-front, stored-more}
 use Rattle.scenario.proofs.put_all.Statement.{statement}
 use Rattle.scenario.proofs.put_all.Tie as tie
 

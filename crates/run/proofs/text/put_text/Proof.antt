@@ -4,7 +4,7 @@ use Prim.Native.Nat.{_-_, _≤_}
 use native.Mathlib.Omega.{arith}
 use lib.ListN.{length, take, length-set}
 use lib.Seq.{sets, take-length}
-use Rattle.run.proofs.Written.{sets-more}
+use Rattle.terms.specs.BufferLaws.{sets-more}
 use Rattle.run.proofs.text.put_text.Statement.{statement}
 use Rattle.run.proofs.text.put_text.Tie as tie
 
