@@ -9,7 +9,10 @@ pub mod ReadLaws
 pub mod Reader
 pub mod Records
 pub mod RoundTrip
+pub mod SectionsRead
 pub mod Sizes
+pub mod Sofar
+pub mod SpotOrder
 pub mod Spots
 pub mod Stages
 pub mod Stored

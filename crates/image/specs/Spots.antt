@@ -3,7 +3,7 @@
 use mathlib.Core.Path.{_≡_, refl, sym, ap, subst, _∙_}
 use mathlib.Core.Bool.{Bool, true, false, false≢true}
 use mathlib.Core.List.{List, [], _∷_}
-use Prim.Native.Nat.{ℕ, zero, suc, _+_, _*_, _/_, _%_, _^_, _≤_, _<_}
+use Prim.Native.Nat.{ℕ, zero, suc, _+_, _*_, _^_, _≤_, _<_}
 use native.Mathlib.Decide.{ℕ-discrete}
 use native.Mathlib.Omega.{arith}
 use lib.Dec.{ltb, leb, eqb}
@@ -11,15 +11,13 @@ use lib.ListN.{length, getD}
 use lib.Seq.{getD-set-same, getD-set-other}
 use borrow.Author.Tests.{ltb-true, leb-true, eq-eqb}
 use Rattle.terms.specs.Bytes.{twosComplement, signed}
-use Rattle.terms.specs.Choose.{if_then_else_, _and_}
+use Rattle.terms.specs.Choose.{_and_}
 use Rattle.terms.specs.Counted.{listFrom, list, one}
 use Rattle.terms.specs.CountedLaws.{and-passes}
 use Rattle.terms.specs.Limits.{NODES, OBJECTS, PLACES, owner}
 use Rattle.entry.specs.declared.Entry.{Entry}
 use Rattle.entry.specs.declared.Entry.the-variants.{Absent, AtOwner, Elsewhere}
 use Rattle.entry.specs.Fits.{fitsEntry}
-use Rattle.heap.specs.declared.Object.{Object}
-use Rattle.heap.specs.declared.Roots.{Roots}
 use Rattle.heap.specs.Heap.{fitsObject, fitsRoots}
 use Rattle.table.specs.declared.Cell.{Cell}
 use Rattle.table.specs.declared.Slot.{Slot}
@@ -36,6 +34,7 @@ use Rattle.image.specs.Content.{number, liveObject, rootsOfNode, directo
 use Rattle.image.specs.ContentLaws.{Shaped, list-back, remote-away}
 use Rattle.image.specs.Order.{position, positionOf}
 use Rattle.image.specs.Records.{Record, row, isUnknown, isEnd, widthsOf}
+use Rattle.image.specs.Stored.{liveRecord, nodeRecord}
 use Rattle.image.specs.Writer.{objectRecord, rootsRecord, directoryRecord, remoteRecord, messageRecord}
 
 pub data Spot : Type 0 where
@@ -76,15 +75,7 @@ recordAt t (directory o) = directoryRecord o (entryAt t (owner o) o)
 recordAt t (remote p o) = remoteRecord p o (entryAt t p o)
 recordAt t (message s) = messageRecord s (messageAt t s)
 
--- ---- the spot at a position
-
-spotFrom : ℕ → ℕ → Spot
-spotFrom zero key = count
-spotFrom (suc zero) key = object key
-spotFrom (suc (suc zero)) key = roots key
-spotFrom (suc (suc (suc zero))) key = directory key
-spotFrom (suc (suc (suc (suc zero)))) key = remote (key / 256) (key % 256)
-spotFrom (suc (suc (suc (suc (suc n))))) key = message key
+-- ---- what fits
 
 pub fit-length : (ws ns : List ℕ) → Fit ws ns → length ns ≡ length ws
 fit-length [] [] fit = refl
@@ -154,16 +145,6 @@ remote-none p o Absent at fits = refl
 remote-none p o (AtOwner d) at fits = refl
 remote-none p o (Elsewhere r) at fits = absurd (false≢true (rw (eq-eqb p (owner o) at) at (remote-away r p o fits)))
 
--- the record of an object as it stands
-abbrev pub objectRow : ℕ → Object → List Record
-objectRow o x =
-    if x .live then row Live (o ∷ getD (x .fields) 0 0 ∷ getD (x .fields) 1 0 ∷ getD (x .fields) 2 0 ∷ getD (x .fields) 3 0 ∷ []) ∷ [] else []
-
--- the record of a node's roots as they stand
-abbrev rootsRow : ℕ → Roots → List Record
-rootsRow p x =
-    row NodeRoots (p ∷ getD (x .at) 0 0 ∷ getD (x .at) 1 0 ∷ getD (x .at) 2 0 ∷ getD (x .at) 3 0 ∷ getD (x .at) 4 0 ∷ getD (x .at) 5 0 ∷ getD (x .at) 6 0 ∷ getD (x .at) 7 0 ∷ []) ∷ []
-
 -- the record of a place as it stands
 abbrev placeRow : ℕ → Place → List Record
 placeRow s x = messageRecord s (x .held)
@@ -191,7 +172,7 @@ module _ (t : Table) (formed : Formed t) (shape : Shaped t) (ns : List ℕ) wher
   unfolding withRecord
   other-live count ne = refl
   other-live (object o) ne =
-      ap (objectRow o) (getD-set-other (t .heap .objects) (number ns 0) o (liveObject ns) (record { live = false; fields = [] }) (λ q. ne (omega arith)))
+      ap (liveRecord o) (getD-set-other (t .heap .objects) (number ns 0) o (liveObject ns) (record { live = false; fields = [] }) (λ q. ne (omega arith)))
   other-live (roots p) ne = refl
   other-live (directory o) ne = refl
   other-live (remote p o) ne = refl
@@ -202,7 +183,7 @@ module _ (t : Table) (formed : Formed t) (shape : Shaped t) (ns : List ℕ) wher
   other-roots count ne = refl
   other-roots (object o) ne = refl
   other-roots (roots p) ne =
-      ap (rootsRow p) (getD-set-other (t .heap .roots) (number ns 0) p (rootsOfNode ns) (record { at = [] }) (λ q. ne (omega arith)))
+      ap (nodeRecord p) (getD-set-other (t .heap .roots) (number ns 0) p (rootsOfNode ns) (record { at = [] }) (λ q. ne (omega arith)))
   other-roots (directory o) ne = refl
   other-roots (remote p o) ne = refl
   other-roots (message s) ne = refl
@@ -320,12 +301,12 @@ module _ (t : Table) (formed : Formed t) where
   here-live : (a b c d e : ℕ) → a < OBJECTS → Stands Live (a ∷ b ∷ c ∷ d ∷ e ∷ [])
   unfolding withRecord
   here-live a b c d e lt =
-      ap (objectRow a) (getD-set-same (t .heap .objects) a (liveObject (a ∷ b ∷ c ∷ d ∷ e ∷ [])) (record { live = false; fields = [] }) (omega (arith, formed .objects)))
+      ap (liveRecord a) (getD-set-same (t .heap .objects) a (liveObject (a ∷ b ∷ c ∷ d ∷ e ∷ [])) (record { live = false; fields = [] }) (omega (arith, formed .objects)))
 
   here-roots : (a b c d e f g h i : ℕ) → a < NODES → Stands NodeRoots (a ∷ b ∷ c ∷ d ∷ e ∷ f ∷ g ∷ h ∷ i ∷ [])
   unfolding withRecord
   here-roots a b c d e f g h i lt =
-      ap (rootsRow a) (getD-set-same (t .heap .roots) a (rootsOfNode (a ∷ b ∷ c ∷ d ∷ e ∷ f ∷ g ∷ h ∷ i ∷ [])) (record { at = [] }) (omega (arith, formed .nodes)))
+      ap (nodeRecord a) (getD-set-same (t .heap .roots) a (rootsOfNode (a ∷ b ∷ c ∷ d ∷ e ∷ f ∷ g ∷ h ∷ i ∷ [])) (record { at = [] }) (omega (arith, formed .nodes)))
 
   here-directory : (a b c : ℕ) → a < OBJECTS → c < 256 ^ 4 → Stands Directory (a ∷ b ∷ c ∷ [])
   unfolding withRecord
@@ -381,63 +362,3 @@ module _ (t : Table) (formed : Formed t) where
       (nth-fits Decrement ns 4 (takes .fit) refl))
   spot-same End ns takes = absurd (false≢true (sym (takes .onward)))
   spot-same Unknown ns takes = absurd (false≢true (sym (takes .known)))
-
--- ---- one spot at a position
-
--- a record's position is that of its spot
-pub position-spot : (k : RecordKind) (ns : List ℕ) → Takes k ns → spotPosition (spotOf k ns) ≡ positionOf k ns
-position-spot Count ns takes = refl
-position-spot Live ns takes = refl
-position-spot NodeRoots ns takes = refl
-position-spot Directory ns takes = refl
-position-spot Remote ns takes = refl
-position-spot Reference ns takes = refl
-position-spot Decrement ns takes = refl
-position-spot End ns takes = absurd (false≢true (sym (takes .onward)))
-position-spot Unknown ns takes = absurd (false≢true (sym (takes .known)))
-
-section-back : (s key : ℕ) → key < 65536 → (65536 * s + key) / 65536 ≡ s
-section-back s key lt = omega arith
-
-key-back : (s key : ℕ) → key < 65536 → (65536 * s + key) % 65536 ≡ key
-key-back s key lt = omega arith
-
-spot-back : (k : RecordKind) (ns : List ℕ) → Takes k ns → spotFrom (positionOf k ns / 65536) (positionOf k ns % 65536) ≡ spotOf k ns
-unfolding spotFrom
-spot-back Count ns takes = refl
-spot-back Live ns takes = let lt = small Live ns takes refl in rw (section-back 1 (number ns 0) (omega arith), key-back 1 (number ns 0) (omega arith))
-spot-back NodeRoots ns takes = let lt = small NodeRoots ns takes refl in rw (section-back 2 (number ns 0) (omega arith), key-back 2 (number ns 0) (omega arith))
-spot-back Directory ns takes = let lt = small Directory ns takes refl in rw (section-back 3 (number ns 0) (omega arith), key-back 3 (number ns 0) (omega arith))
-spot-back Remote ns takes =
-    let tests = remote-tests ns (takes .allowed) in
-    let key = 256 * number ns 0 + number ns 1 in
-    let node : (256 * number ns 0 + number ns 1) / 256 ≡ number ns 0 = omega (arith, tests .object) in
-    let of : (256 * number ns 0 + number ns 1) % 256 ≡ number ns 1 = omega (arith, tests .object) in
-    rw (
-      section-back 4 (256 * number ns 0 + number ns 1) (omega (arith, tests .node, tests .object)),
-      key-back 4 (256 * number ns 0 + number ns 1) (omega (arith, tests .node, tests .object)),
-      node,
-      of,
-    )
-spot-back Reference ns takes = let lt = small Reference ns takes refl in rw (section-back 5 (number ns 0) (omega arith), key-back 5 (number ns 0) (omega arith))
-spot-back Decrement ns takes = let lt = small Decrement ns takes refl in rw (section-back 5 (number ns 0) (omega arith), key-back 5 (number ns 0) (omega arith))
-spot-back End ns takes = absurd (false≢true (sym (takes .onward)))
-spot-back Unknown ns takes = absurd (false≢true (sym (takes .known)))
-
--- records at one position are about one spot
-pub spot-unique : (k : RecordKind) (ns : List ℕ) (k′ : RecordKind) (ns′ : List ℕ) → Takes k ns → Takes k′ ns′
-    → positionOf k ns ≡ positionOf k′ ns′ → spotOf k ns ≡ spotOf k′ ns′
-spot-unique k ns k′ ns′ one two e =
-    sym (spot-back k ns one) ∙ ap (λ (q : ℕ). spotFrom (q / 65536) (q % 65536)) e ∙ spot-back k′ ns′ two
-
--- all stand before the end
-pub before-end : (k : RecordKind) (ns : List ℕ) → Takes k ns → positionOf k ns < position 6 0
-before-end Count ns takes = omega arith
-before-end Live ns takes = omega (arith, small Live ns takes refl)
-before-end NodeRoots ns takes = omega (arith, small NodeRoots ns takes refl)
-before-end Directory ns takes = omega (arith, small Directory ns takes refl)
-before-end Remote ns takes = let tests = remote-tests ns (takes .allowed) in omega (arith, tests .node, tests .object)
-before-end Reference ns takes = omega (arith, small Reference ns takes refl)
-before-end Decrement ns takes = omega (arith, small Decrement ns takes refl)
-before-end End ns takes = absurd (false≢true (sym (takes .onward)))
-before-end Unknown ns takes = absurd (false≢true (sym (takes .known)))

@@ -68,6 +68,7 @@ HEAP-BYTES = OBJECT-BYTES * OBJECTS + ROOTS-BYTES * NODES
 abbrev pub CELLS-BYTES : ℕ
 CELLS-BYTES = DIRECTORY-BYTES * OBJECTS + REMOTE-BYTES * OBJECTS * NODES
 
+-- messages
 abbrev pub AIR-BYTES : ℕ
 AIR-BYTES = MESSAGE-BYTES * PLACES
 
@@ -104,9 +105,11 @@ heapRecords h = gather OBJECTS (λ o. liveRecord o (objectAt h o)) ++ gather NOD
 abbrev pub entryOf : List Cell → ℕ → ℕ → Entry
 entryOf cells p o = entryIn (getD cells o (record { at = [] })) p
 
+-- the record of an object's directory, if there is one
 abbrev pub directoryOf : List Cell → ℕ → List Record
 directoryOf cells o = directoryRecord o (entryOf cells (owner o) o)
 
+-- the record of another node's entry, if there is one
 abbrev pub remoteOf : List Cell → ℕ → ℕ → List Record
 remoteOf cells p o = remoteRecord p o (entryOf cells p o)
 
@@ -114,6 +117,7 @@ remoteOf cells p o = remoteRecord p o (entryOf cells p o)
 abbrev pub cellsRecords : List Cell → List Record
 cellsRecords cells = gather OBJECTS (directoryOf cells) ++ gather NODES (λ p. gather OBJECTS (remoteOf cells p))
 
+-- the record of a place's message, if there is one
 abbrev pub messageOf : List Place → ℕ → List Record
 messageOf air s = messageRecord s (getD air s (record { held = Empty }) .held)
 

@@ -22,7 +22,9 @@ use Rattle.image.specs.Keeps.{Good, keeps, fresh-object, fresh-entry, fr
 use Rattle.image.specs.Order.{position, positionOf, turn, firstTurn, turnAfter, inTurn}
 use Rattle.image.specs.ReadLaws.{Reads, ends, takes}
 use Rattle.image.specs.Records.{Record, row}
-use Rattle.image.specs.Spots.{Spot, spotOf, spotPosition, recordAt, Takes, spot-other, spot-same, position-spot, spot-unique, before-end, remote-tests, objectRow, small}
+use Rattle.image.specs.SpotOrder.{position-spot, spot-unique, before-end}
+use Rattle.image.specs.Spots.{Spot, spotOf, spotPosition, recordAt, Takes, spot-other, spot-same, remote-tests, small}
+use Rattle.image.specs.Stored.{liveRecord}
 use Rattle.image.specs.Writer.{directoryRecord, remoteRecord, messageRecord}
 
 -- the first position in turn is no later, and the last no earlier
@@ -200,7 +202,7 @@ ready-first = record { optional = λ k ns it low high. absurd (omega arith); fre
   where
     nothing : (k : RecordKind) (ns : List ℕ) → Takes k ns → isOptional k ≡ true → recordAt freshTable (spotOf k ns) ≡ []
     nothing Count ns it opt = absurd (false≢true opt)
-    nothing Live ns it opt = ap (objectRow (number ns 0)) (fresh-object (number ns 0) (small Live ns it refl))
+    nothing Live ns it opt = ap (liveRecord (number ns 0)) (fresh-object (number ns 0) (small Live ns it refl))
     nothing NodeRoots ns it opt = absurd (false≢true opt)
     nothing Directory ns it opt =
         let lt = small Directory ns it refl in

@@ -1,6 +1,6 @@
 -- The writer (document 01, "Saved image" and "Writer"): the records of a table in their order, and what becomes of a lent buffer.
 -- Definitions only; assumes nothing.
-use mathlib.Core.Bool.{Bool, true, false, not}
+use mathlib.Core.Bool.{not}
 use mathlib.Core.List.{List, [], _∷_, _++_}
 use Prim.Native.Nat.{ℕ}
 use lib.Dec.{ltb}

@@ -16,6 +16,7 @@ ghost use Rattle.entry.specs.declared.Entry.the-variants.{AtOwner, Elsewhere};
 ghost use Rattle.image.specs.Stored.{FULL as ROOM-FOR-ALL, DIRECTORY-BYTES, REMOTE-BYTES, CELLS-BYTES, Put, cellsRecords};
 ghost use Rattle.image.specs.Writer.{directoryRecord, remoteRecord};
 
+// The low byte of each kind's number, and the length of its payload.
 const DIRECTORY: u8 = 0x03;
 
 const DIRECTORY_PAYLOAD: u8 = 9;
@@ -24,6 +25,7 @@ const REMOTE: u8 = 0x04;
 
 const REMOTE_PAYLOAD: u8 = 16;
 
+// The owner's entry.
 fn put_owners(out: &mut [u8; FULL], at: usize, o: u8, d: Directory) -> usize
     requires { ⌜ at + DIRECTORY-BYTES ≤ ROOM-FOR-ALL ⌝ }
     ensures { λ r. ⌜ Put DIRECTORY-BYTES (directoryRecord o (AtOwner d)) (now (out .entry)) at (now (out .exit)) r ⌝ }
@@ -36,12 +38,14 @@ fn put_owners(out: &mut [u8; FULL], at: usize, o: u8, d: Directory) -> usize
     store_returns(out, c, returned)
 }
 
+// Presence as a byte.
 fn one_if(there: bool) -> u8
     ensures { λ r. ⌜ r ≡ one there ⌝ }
 {
     if there { 1 } else { 0 }
 }
 
+// Any other node's entry.
 fn put_elsewhere(out: &mut [u8; FULL], at: usize, p: u8, o: u8, e: Remote) -> usize
     requires { ⌜ at + REMOTE-BYTES ≤ ROOM-FOR-ALL ⌝ }
     ensures { λ r. ⌜ Put REMOTE-BYTES (remoteRecord p o (Elsewhere e)) (now (out .entry)) at (now (out .exit)) r ⌝ }
@@ -60,6 +64,7 @@ fn put_elsewhere(out: &mut [u8; FULL], at: usize, p: u8, o: u8, e: Remote) -> us
     store_number(out, k, weight.0)
 }
 
+// What stands at an object's owner, if it is a directory.
 fn put_directory(out: &mut [u8; FULL], at: usize, o: u8, e: Entry) -> usize
     requires { ⌜ at + DIRECTORY-BYTES ≤ ROOM-FOR-ALL ⌝ }
     ensures { λ r. ⌜ Put DIRECTORY-BYTES (directoryRecord o e) (now (out .entry)) at (now (out .exit)) r ⌝ }
@@ -71,6 +76,7 @@ fn put_directory(out: &mut [u8; FULL], at: usize, o: u8, e: Entry) -> usize
     }
 }
 
+// What stands at a node for an object, if it isn't a directory.
 fn put_remote(out: &mut [u8; FULL], at: usize, p: u8, o: u8, e: Entry) -> usize
     requires { ⌜ at + REMOTE-BYTES ≤ ROOM-FOR-ALL ⌝ }
     ensures { λ r. ⌜ Put REMOTE-BYTES (remoteRecord p o e) (now (out .entry)) at (now (out .exit)) r ⌝ }

@@ -9,6 +9,7 @@ use heap::Roots;
 ghost use Prim.Native.Nat.{_+_, _≤_};
 ghost use Rattle.image.specs.Stored.{FULL as ROOM-FOR-ALL, OBJECT-BYTES, ROOTS-BYTES, HEAP-BYTES, Put, liveRecord, nodeRecord, heapRecords};
 
+// The low byte of each kind's number, and the length of its payload.
 const LIVE: u8 = 0x01;
 
 const LIVE_PAYLOAD: u8 = 5;
@@ -17,6 +18,7 @@ const ROOTS: u8 = 0x02;
 
 const ROOTS_PAYLOAD: u8 = 9;
 
+// An object, if it is live.
 fn put_object(out: &mut [u8; FULL], at: usize, o: u8, x: Object) -> usize
     requires { ⌜ at + OBJECT-BYTES ≤ ROOM-FOR-ALL ⌝ }
     ensures { λ r. ⌜ Put OBJECT-BYTES (liveRecord o x) (now (out .entry)) at (now (out .exit)) r ⌝ }
@@ -29,6 +31,7 @@ fn put_object(out: &mut [u8; FULL], at: usize, o: u8, x: Object) -> usize
     store_four(out, b, x.fields[0], x.fields[1], x.fields[2], x.fields[3])
 }
 
+// The eight roots of a node.
 fn put_roots(out: &mut [u8; FULL], at: usize, p: u8, x: Roots) -> usize
     requires { ⌜ at + ROOTS-BYTES ≤ ROOM-FOR-ALL ⌝ }
     ensures { λ r. ⌜ Put ROOTS-BYTES (nodeRecord p x) (now (out .entry)) at (now (out .exit)) r ⌝ }

@@ -14,6 +14,7 @@ ghost use Rattle.table.specs.declared.Message.the-variants.{Reference, Decremen
 ghost use Rattle.image.specs.Stored.{FULL as ROOM-FOR-ALL, MESSAGE-BYTES, AIR-BYTES, Put, airRecords};
 ghost use Rattle.image.specs.Writer.{messageRecord};
 
+// The low byte of each kind's number, and the length of its payload.
 const REFERENCE: u8 = 0x05;
 
 const REFERENCE_PAYLOAD: u8 = 4;
@@ -22,6 +23,7 @@ const DECREMENT: u8 = 0x06;
 
 const DECREMENT_PAYLOAD: u8 = 12;
 
+// A reference in the air.
 fn put_reference(out: &mut [u8; FULL], at: usize, s: u8, from: u8, to: u8, o: u8) -> usize
     requires { ⌜ at + MESSAGE-BYTES ≤ ROOM-FOR-ALL ⌝ }
     ensures { λ r. ⌜ Put MESSAGE-BYTES (messageRecord s (Reference from to o)) (now (out .entry)) at (now (out .exit)) r ⌝ }
@@ -30,6 +32,7 @@ fn put_reference(out: &mut [u8; FULL], at: usize, s: u8, from: u8, to: u8, o: u8
     store_four(out, a, s, from, to, o)
 }
 
+// A decrement in the air, with its return count and weight.
 fn put_decrement(
     out: &mut [u8; FULL],
     at: usize,
@@ -49,6 +52,7 @@ fn put_decrement(
     store_number(out, c, n.0)
 }
 
+// What a place holds, if anything.
 fn put_message(out: &mut [u8; FULL], at: usize, s: u8, m: Message) -> usize
     requires { ⌜ at + MESSAGE-BYTES ≤ ROOM-FOR-ALL ⌝ }
     ensures { λ r. ⌜ Put MESSAGE-BYTES (messageRecord s m) (now (out .entry)) at (now (out .exit)) r ⌝ }

@@ -17,6 +17,7 @@ const ALL: u32 = 4294967295;
 // The high byte of every kind's number.
 const KIND: u8 = 0x01;
 
+// One byte.
 pub(crate) fn store_byte(out: &mut [u8; FULL], at: usize, a: u8) -> usize
     requires { ⌜ at + 1 ≤ ROOM-FOR-ALL ⌝ }
     ensures { λ r. ⌜ Stored (now (out .entry)) at (bytesOf 1 a) (now (out .exit)) r ⌝ }
@@ -25,6 +26,7 @@ pub(crate) fn store_byte(out: &mut [u8; FULL], at: usize, a: u8) -> usize
     at + 1
 }
 
+// Four bytes.
 pub(crate) fn store_four(out: &mut [u8; FULL], at: usize, a: u8, b: u8, c: u8, d: u8) -> usize
     requires { ⌜ at + 4 ≤ ROOM-FOR-ALL ⌝ }
     ensures { λ r. ⌜ Stored (now (out .entry)) at (four a b c d) (now (out .exit)) r ⌝ }
@@ -69,6 +71,7 @@ fn byte_3(x: u32) -> u8
     (x / BYTE / BYTE / BYTE % BYTE) as u8
 }
 
+// A number of four bytes.
 pub(crate) fn store_number(out: &mut [u8; FULL], at: usize, x: u32) -> usize
     requires { ⌜ at + 4 ≤ ROOM-FOR-ALL ⌝ }
     ensures { λ r. ⌜ Stored (now (out .entry)) at (bytesOf 4 x) (now (out .exit)) r ⌝ }
@@ -92,6 +95,7 @@ fn bits_of(c: ReturnCount) -> u32
     ALL - y
 }
 
+// A return count.
 pub(crate) fn store_returns(out: &mut [u8; FULL], at: usize, c: ReturnCount) -> usize
     requires { ⌜ at + 4 ≤ ROOM-FOR-ALL ⌝ }
     ensures { λ r. ⌜ Stored (now (out .entry)) at (bytesOf 4 (twosComplement (c .0))) (now (out .exit)) r ⌝ }

@@ -10,6 +10,7 @@ ghost use mathlib.Core.Path.{_≡_};
 ghost use lib.ListN.{length};
 ghost use Rattle.image.specs.Stored.{FULL as ROOM-FOR-ALL, Made};
 
+// The low byte of each kind's number, and the length of its payload.
 const COUNT: u8 = 0x00;
 
 const COUNT_PAYLOAD: u8 = 4;

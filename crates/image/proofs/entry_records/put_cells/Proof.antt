@@ -6,7 +6,6 @@ use mathlib.Core.List.{List}
 use native.Mathlib.Omega.{arith}
 use Rattle.terms.specs.Counted.{gather}
 use Rattle.image.specs.StoredLaws.{put-start, put-more, put-both}
-use mathlib.Core.Path.{_≡_}
 use Rattle.terms.specs.Limits.{NODES, OBJECTS, OWNED, owner}
 use Rattle.image.specs.Stored.{DIRECTORY-BYTES, REMOTE-BYTES, Put, directoryOf, remoteOf}
 use borrow.Author.Needs.{needs}
