@@ -49,17 +49,11 @@ loop-less c = search needs
 loop-again : tie.Need-loop-again Inv-loop2 μ-loop2 Inv-loop μ-loop
 loop-again c = search needs
 
-fits-requires : tie.Need-fits-requires Inv-loop2 μ-loop2 Inv-loop μ-loop
-fits-requires c κs = search needs
-
 slice-aggregate-write-all : tie.Need-slice-aggregate-write-all Inv-loop2 μ-loop2 Inv-loop μ-loop
 slice-aggregate-write-all c = search needs
 
 write-all-requires : tie.Need-write-all-requires Inv-loop2 μ-loop2 Inv-loop μ-loop
 write-all-requires c κs = search needs
-
-returns : tie.Need-returns Inv-loop2 μ-loop2 Inv-loop μ-loop
-returns c = search needs
 
 slice-aggregate-write-all-2 :
     tie.Need-slice-aggregate-write-all-2 Inv-loop2 μ-loop2 Inv-loop μ-loop
@@ -74,15 +68,8 @@ cast-print-decimal c = search needs
 print-decimal-requires : tie.Need-print-decimal-requires Inv-loop2 μ-loop2 Inv-loop μ-loop
 print-decimal-requires c κs = search needs
 
-slice-aggregate-write-all-3 :
-    tie.Need-slice-aggregate-write-all-3 Inv-loop2 μ-loop2 Inv-loop μ-loop
-slice-aggregate-write-all-3 c = search needs
-
-write-all-requires-3 : tie.Need-write-all-requires-3 Inv-loop2 μ-loop2 Inv-loop μ-loop
-write-all-requires-3 c κs = search needs
-
-returns-2 : tie.Need-returns-2 Inv-loop2 μ-loop2 Inv-loop μ-loop
-returns-2 c = search needs
+returns : tie.Need-returns Inv-loop2 μ-loop2 Inv-loop μ-loop
+returns c = search needs
 
 pub main-spec : {M : Type 1} → statement M
 main-spec =
@@ -103,14 +90,10 @@ main-spec =
     add-round
     loop-less
     loop-again
-    fits-requires
     slice-aggregate-write-all
     write-all-requires
-    returns
-    slice-aggregate-write-all-2
-    write-all-requires-2
     cast-print-decimal
     print-decimal-requires
-    slice-aggregate-write-all-3
-    write-all-requires-3
-    returns-2)
+    slice-aggregate-write-all-2
+    write-all-requires-2
+    returns)
