@@ -5,16 +5,16 @@ use Rattle.stepbench.proofs.main.Statement.{statement}
 use Rattle.stepbench.proofs.main.Tie as tie
 
 abbrev Inv-loop2 : tie.InvT-loop2
-Inv-loop2 t₀ round k₀ t6 t7 t8 t k = k ≤ 12
+Inv-loop2 t₀ round k₀ t6 t7 t k = k ≤ 12
 
 abbrev μ-loop2 : tie.MeasureT-loop2
-μ-loop2 t₀ round k₀ t6 t7 t8 t k = 12 - k
+μ-loop2 t₀ round k₀ t6 t7 t k = 12 - k
 
 abbrev Inv-loop : tie.InvT-loop
-Inv-loop t₀ round₀ t6 t7 t8 t round = round ≤ 2000
+Inv-loop t₀ round₀ t6 t7 t round = round ≤ 2000
 
 abbrev μ-loop : tie.MeasureT-loop
-μ-loop t₀ round₀ t6 t7 t8 t round = 2000 - round
+μ-loop t₀ round₀ t6 t7 t round = 2000 - round
 
 fresh-requires : tie.Need-fresh-requires Inv-loop2 μ-loop2 Inv-loop μ-loop
 fresh-requires c κs = search needs
