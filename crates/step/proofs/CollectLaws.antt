@@ -28,7 +28,7 @@ use Rattle.table.specs.Table.{cellAt, cellWith, entryAt, entryIn}
 use Rattle.table.proofs.Arrays.{no-cell}
 use Rattle.table.proofs.Table as table
 use Rattle.step.specs.Collect.{cellCollected, collectTorn, heldAt, mayHold}
-use Rattle.step.specs.CollectParts.{changes, mayHoldBy, presentAt, reclaims}
+use Rattle.step.specs.CollectParts.{changes, isWhole, mayHoldBy, presentAt, reclaims}
 
 -- marks of what a list holds say of each object whether it does
 pub marked-held : (m : List Bool) (held : List ℕ) (o : ℕ) → o < OBJECTS → m ≡ list OBJECTS (holds held) → isMarked m o ≡ holds held o
@@ -47,7 +47,8 @@ any-present t good p o = go (ltb o OBJECTS) refl
     go false e =
         let out : OBJECTS ≤ o = ltb-false o OBJECTS e in
         let size = length-list 0 OBJECTS (λ k. isPresent (entryAt t p k)) in
-        List·getD-eq-default (presentAt t p) false (omega (arith, size, out)) ∙ sym (ap (λ (c : Cell). isPresent (entryIn c p)) (no-cell t good o out))
+        List·getD-eq-default (presentAt t p) false (omega (arith, size, out))
+        ∙ sym (ap (λ (c : Cell). isPresent (entryIn c p)) (no-cell t good o out))
 
 -- so what p may hold by the marks is what it may hold
 pub may-hold-by : {vs : List Val} (t : Table) → Is table.the-row t vs → (p : ℕ) → mayHoldBy (presentAt t p) p ≡ mayHold t p
@@ -59,7 +60,7 @@ keptLive t marks = every OBJECTS (λ o. not (isMarked marks o) or isLive (t .hea
 
 -- and COLLECT finds the table torn where the test of its parts fails
 pub torn-by : {vs : List Val} (t : Table) → Is table.the-row t vs → (p : ℕ) (marks present : List Bool) (whole : Bool) → present ≡ presentAt t p
-    → whole ≡ (keptLive t marks and all (mayHoldBy present p) (heldAt t p marks)) → collectTorn t p marks (heldAt t p marks) ≡ not whole
+    → whole ≡ isWhole (t .heap) p present marks → collectTorn t p marks (heldAt t p marks) ≡ not whole
 unfolding collectTorn
 torn-by t good p marks present whole here e =
     let held = heldAt t p marks in
@@ -73,7 +74,10 @@ torn-by t good p marks present whole here e =
 unused-already : (e : Entry) → isPresent e ≡ false → setUnused e ≡ e
 unused-already Absent absent = refl
 unused-already (AtOwner d) absent = refl
-unused-already (Elsewhere e) absent = ap (λ (b : Bool). Elsewhere (record { rc = e .rc; parent = e .parent; presence = b; «msg_ctr» = e .«msg_ctr»; «ref_weight» = e .«ref_weight» })) (sym absent)
+unused-already (Elsewhere e) absent =
+    let with-presence : Bool → Remote =
+    λ b. record { rc = e .rc; parent = e .parent; presence = b; «msg_ctr» = e .«msg_ctr»; «ref_weight» = e .«ref_weight» } in
+    ap (λ (b : Bool). Elsewhere (with-presence b)) (sym absent)
 
 -- so is a cell in which nothing is present at p
 unused-cell : (c : Cell) (p : ℕ) → isPresent (entryIn c p) ≡ false → cellWith c p (setUnused (entryIn c p)) ≡ c

@@ -1,14 +1,15 @@
 -- Parts of COLLECT as the code finds them: on the heap alone, and by marks for what the table's entries say. Each comes to the definition
 -- of specs/Collect.antt; proofs/CollectLaws.antt has what isn't so by computation. Definitions only; assumes nothing.
 use mathlib.Core.Bool.{Bool, true, false, not}
+use mathlib.Core.List.{_++_}
 use Prim.Native.Nat.{ℕ}
 use Rattle.terms.specs.Choose.{if_then_else_, _and_, _or_}
-use Rattle.terms.specs.Counted.{list}
+use Rattle.terms.specs.Counted.{all, every, list}
 use Rattle.terms.specs.Limits.{OBJECTS}
 use Rattle.entry.specs.Entry.{isPresent}
 use Rattle.heap.specs.declared.Heap.{Heap}
-use Rattle.heap.specs.Heap.{idle, objectAt, isLive, isNone}
-use Rattle.heap.specs.Walk.{Marks, isMarked, ownedBy}
+use Rattle.heap.specs.Heap.{idle, objectAt, isLive, isNone, rootsOf}
+use Rattle.heap.specs.Walk.{Marks, heldBy, isMarked, ownedBy}
 use Rattle.table.specs.declared.Table.{Table}
 use Rattle.table.specs.Table.{entryAt}
 
@@ -19,6 +20,11 @@ presentAt t p = list OBJECTS (λ o. isPresent (entryAt t p o))
 -- what p may hold, by those marks
 abbrev pub mayHoldBy : Marks → ℕ → ℕ → Bool
 mayHoldBy present p x = isNone x or ownedBy p x or isMarked present x
+
+-- every kept object is live, and p holds only what it may
+abbrev pub isWhole : Heap → ℕ → Marks → Marks → Bool
+isWhole h p present marks =
+    every OBJECTS (λ o. not (isMarked marks o) or isLive h o) and all (mayHoldBy present p) (rootsOf h p ++ heldBy h marks)
 
 -- a live object of p that was not reached
 abbrev pub reclaims : Heap → ℕ → Marks → ℕ → Bool

@@ -9,9 +9,9 @@ use heap::Marks;
 use table::Table;
 ghost use mathlib.Core.Path.{_≡_};
 ghost use mathlib.Core.Bool.{not};
-ghost use mathlib.Core.List.{[], _++_};
+ghost use mathlib.Core.List.{[]};
 ghost use Prim.Native.Nat.{_<_};
-ghost use Rattle.terms.specs.Choose.{if_then_else_, _and_, _or_};
+ghost use Rattle.terms.specs.Choose.{if_then_else_, _or_};
 ghost use Rattle.terms.specs.Counted.{all, every, holds, howMany, list};
 ghost use Rattle.terms.specs.Limits.{NODES, OBJECTS};
 ghost use Rattle.entry.specs.declared.Entry.the-variants.{Absent};
@@ -19,7 +19,7 @@ ghost use Rattle.entry.specs.AtNode.{setUnused};
 ghost use Rattle.heap.specs.Heap.{fieldsOf, isLive, rootsOf};
 ghost use Rattle.heap.specs.Walk.{heldBy, isMarked, ownedBy};
 ghost use Rattle.step.specs.Collect.{collect, counted, heldAt, kept, withCollected};
-ghost use Rattle.step.specs.CollectParts.{changes, mayHoldBy, presentAt, reclaims, withoutReclaimed};
+ghost use Rattle.step.specs.CollectParts.{changes, isWhole, mayHoldBy, presentAt, reclaims, withoutReclaimed};
 ghost use Rattle.step.specs.Outcome.{by};
 
 // For each object of p, whether its directory has RC above 0 or MsgCtr not 0.
@@ -174,7 +174,7 @@ pub(crate) fn marked_live(h: Heap, marks: Marks) -> bool
 
 // Every kept object is live, and p holds only what it may.
 pub(crate) fn is_whole(h: Heap, p: u8, present: Marks, marks: Marks) -> bool
-    ensures { λ x. ⌜ x ≡ (every OBJECTS (λ o. not (isMarked (marks .seen) o) or isLive h o) and all (mayHoldBy (present .seen) p) (rootsOf h p ++ heldBy h (marks .seen))) ⌝ }
+    ensures { λ x. ⌜ x ≡ isWhole h p (present .seen) (marks .seen) ⌝ }
 {
     if !marked_live(h, marks) {
         return false;

@@ -23,8 +23,11 @@ unfolding collectKeeping collectHolding
 returns c =
     let w = c .before .before in
     let s = w .before .before .before .before in
-    let torn = torn-by (s .args .t) (s .good .0) (s .args .p) (w .before .before .before .kept .result .seen) (w .before .before .present .result .seen) (w .is-whole .result) (w .before .before .present .ensures) (w .is-whole .ensures) ∙ c .before .if1 .taken in
-    rw (c .refused .ensures, ← w .before .before .before .kept .ensures, torn)
+    let k = w .before .before .before .kept in
+    let h = w .before .before .present in
+    let torn =
+    torn-by (s .args .t) (s .good .0) (s .args .p) (k .result .seen) (h .result .seen) (w .is-whole .result) (h .ensures) (w .is-whole .ensures) ∙ c .before .if1 .taken in
+    rw (c .refused .ensures, ← k .ensures, torn)
 
 held-requires : tie.Need-held-requires
 held-requires c κs = search needs
@@ -44,8 +47,11 @@ returns-2 c =
     let i = c .before .before .before .before in
     let w = i .before in
     let s = w .before .before .before .before in
-    let whole = torn-by (s .args .t) (s .good .0) (s .args .p) (w .before .before .before .kept .result .seen) (w .before .before .present .result .seen) (w .is-whole .result) (w .before .before .present .ensures) (w .is-whole .ensures) ∙ i .if1 .left in
-    rw (c .did .ensures, c .before .with-collected .ensures, c .before .before .reclaimed .ensures, ← w .before .before .before .kept .ensures, whole)
+    let k = w .before .before .before .kept in
+    let h = w .before .before .present in
+    let whole =
+    torn-by (s .args .t) (s .good .0) (s .args .p) (k .result .seen) (h .result .seen) (w .is-whole .result) (h .ensures) (w .is-whole .ensures) ∙ i .if1 .left in
+    rw (c .did .ensures, c .before .with-collected .ensures, c .before .before .reclaimed .ensures, ← k .ensures, whole)
 
 pub collect-spec : {M : Type 1} → statement M
 collect-spec =
