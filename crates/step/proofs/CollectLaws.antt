@@ -8,7 +8,7 @@ use borrow.Author.Tests.{ltb-true, ltb-false}
 use lib.Dec.{ltb}
 use mir.Val.{Val}
 use denote.Laws.{Is}
-use lib.ListN.{length, getD, set, List·getD-eq-default}
+use lib.ListN.{List·getD-eq-default}
 use lib.Seq.{set-getD}
 use Rattle.terms.specs.Choose.{if_then_else_, _and_, _or_}
 use Rattle.terms.specs.Counted.{all, every, holds, list}
@@ -17,7 +17,6 @@ use Rattle.terms.specs.Limits.{OBJECTS}
 use Rattle.entry.specs.declared.Entry.{Entry}
 use Rattle.entry.specs.declared.Entry.the-variants.{Absent, AtOwner, Elsewhere}
 use Rattle.entry.specs.declared.Remote.{Remote}
-use Rattle.entry.specs.Acts.{remoteSetUnused}
 use Rattle.entry.specs.AtNode.{setUnused}
 use Rattle.entry.specs.Entry.{isPresent}
 use Rattle.heap.specs.Heap.{isLive, isNone}

@@ -1,6 +1,6 @@
 -- Parts of COLLECT as the code finds them: on the heap alone, and by marks for what the table's entries say. Each comes to the definition
 -- of specs/Collect.antt; proofs/CollectLaws.antt has what isn't so by computation. Definitions only; assumes nothing.
-use mathlib.Core.Bool.{Bool, true, false, not}
+use mathlib.Core.Bool.{Bool, not}
 use mathlib.Core.List.{_++_}
 use Prim.Native.Nat.{ℕ}
 use Rattle.terms.specs.Choose.{if_then_else_, _and_, _or_}

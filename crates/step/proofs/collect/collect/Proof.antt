@@ -1,5 +1,5 @@
 -- `step::collect::collect` meets its contract: the walk, the test, and the effect. Assumes nothing.
-use mathlib.Core.Path.{sym, _∙_}
+use mathlib.Core.Path.{_∙_}
 use borrow.Author.Needs.{needs}
 use Rattle.step.specs.Collect.{collectHolding, collectKeeping}
 use Rattle.step.proofs.CollectLaws.{torn-by}

@@ -1,14 +1,13 @@
 -- `step::collect::present` meets its contract. The invariant: the marks below `o` are written. Assumes nothing.
-use mathlib.Core.Path.{_≡_, refl}
-use mathlib.Core.Bool.{Bool, false}
-use Prim.Native.Nat.{ℕ, _-_, _≤_}
+use mathlib.Core.Path.{refl}
+use mathlib.Core.Bool.{false}
+use Prim.Native.Nat.{_-_, _≤_}
 use native.Mathlib.Omega.{arith}
 use lib.ListN.{replicate}
 use borrow.Author.Needs.{needs}
 use Rattle.terms.specs.CountedLaws.{Filled, filled-none, filled-set, filled-all}
 use Rattle.terms.specs.Limits.{OBJECTS}
 use Rattle.entry.specs.Entry.{isPresent}
-use Rattle.table.specs.declared.Table.{Table}
 use Rattle.table.specs.Table.{entryAt}
 use Rattle.step.proofs.collect.present.Statement.{statement}
 use Rattle.step.proofs.collect.present.Tie as tie
