@@ -1,5 +1,6 @@
 pub mod Clear
 pub mod Collect
+pub mod CollectParts
 pub mod Drop
 pub mod Event
 pub mod EventBytes

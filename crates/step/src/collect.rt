@@ -6,7 +6,6 @@ use crate::outcomes::refused;
 use entry::Entry;
 use heap::Heap;
 use heap::Marks;
-use table::Cell;
 use table::Table;
 ghost use mathlib.Core.Path.{_≡_};
 ghost use mathlib.Core.Bool.{not};
@@ -15,10 +14,12 @@ ghost use Prim.Native.Nat.{_<_};
 ghost use Rattle.terms.specs.Choose.{if_then_else_, _or_};
 ghost use Rattle.terms.specs.Counted.{all, every, holds, howMany, list};
 ghost use Rattle.terms.specs.Limits.{NODES, OBJECTS};
+ghost use Rattle.entry.specs.declared.Entry.the-variants.{Absent};
+ghost use Rattle.entry.specs.AtNode.{setUnused};
 ghost use Rattle.heap.specs.Heap.{fieldsOf, isLive, rootsOf};
-ghost use Rattle.heap.specs.Walk.{heldBy, isMarked};
-ghost use Rattle.table.specs.Table.{cellAt, withCells};
-ghost use Rattle.step.specs.Collect.{cellCollected, collect, collectTorn, counted, heapCollected, heldAt, isReclaimed, kept, mayHold, withCollected};
+ghost use Rattle.heap.specs.Walk.{heldBy, isMarked, ownedBy};
+ghost use Rattle.step.specs.Collect.{collect, counted, heldAt, kept, withCollected};
+ghost use Rattle.step.specs.CollectParts.{changes, isWhole, mayHoldBy, presentAt, reclaims, withoutReclaimed};
 ghost use Rattle.step.specs.Outcome.{by};
 
 // For each object of p, whether its directory has RC above 0 or MsgCtr not 0.
@@ -30,7 +31,9 @@ pub(crate) fn counted(t: Table, p: u8) -> [bool; 8]
     let mut k: u8 = 0;
     while k < Heap::OWNED {
         let o = Heap::OWNED * p + k;
-        let e = t.entry_at(p, o);
+        let own = o as usize;
+        let cell = t.cells[own];
+        let e = cell.entry_in(p);
         let i = k as usize;
         tests[i] = !e.is_clear();
         k += 1;
@@ -57,9 +60,25 @@ pub(crate) fn is_marked(marks: Marks, o: u8) -> bool
     marks.seen[i]
 }
 
+// For each object, whether p has an entry for it with Presence true.
+pub(crate) fn present(t: Table, p: u8) -> Marks
+    ensures { λ x. ⌜ x .seen ≡ presentAt t p ⌝ }
+{
+    let mut seen = [false; 64];
+    let mut o: u8 = 0;
+    while o < Heap::OBJECTS {
+        let i = o as usize;
+        let cell = t.cells[i];
+        let e = cell.entry_in(p);
+        seen[i] = e.is_present();
+        o += 1;
+    }
+    Marks { seen: seen }
+}
+
 // What p may hold: nothing, an object of its own, or another's for which it has an entry with Presence true.
-pub(crate) fn may_hold(t: Table, p: u8, x: u8) -> bool
-    ensures { λ b. ⌜ b ≡ mayHold t p x ⌝ }
+pub(crate) fn may_hold(present: Marks, p: u8, x: u8) -> bool
+    ensures { λ b. ⌜ b ≡ mayHoldBy (present .seen) p x ⌝ }
 {
     if x == Heap::NONE {
         return true;
@@ -67,19 +86,20 @@ pub(crate) fn may_hold(t: Table, p: u8, x: u8) -> bool
     if x / Heap::OWNED == p {
         return true;
     }
-    let e = t.entry_at(p, x);
-    e.is_present()
+    if Heap::OBJECTS <= x {
+        return false;
+    }
+    is_marked(present, x)
 }
 
 // Every root of p holds what p may hold.
-pub(crate) fn roots_allowed(t: Table, p: u8) -> bool
-    ensures { λ x. ⌜ x ≡ all (mayHold t p) (rootsOf (t .heap) p) ⌝ }
+pub(crate) fn roots_allowed(h: Heap, p: u8, present: Marks) -> bool
+    ensures { λ x. ⌜ x ≡ all (mayHoldBy (present .seen) p) (rootsOf h p) ⌝ }
 {
-    let h = t.heap;
     let mut r: u8 = 0;
     while r < Heap::ROOTS {
         let x = h.root(p, r);
-        if !may_hold(t, p, x) {
+        if !may_hold(present, p, x) {
             return false;
         }
         r += 1;
@@ -88,14 +108,13 @@ pub(crate) fn roots_allowed(t: Table, p: u8) -> bool
 }
 
 // Every field of the object holds what p may hold.
-pub(crate) fn fields_allowed(t: Table, p: u8, o: u8) -> bool
-    ensures { λ x. ⌜ x ≡ all (mayHold t p) (fieldsOf (t .heap) o) ⌝ }
+pub(crate) fn fields_allowed(h: Heap, p: u8, present: Marks, o: u8) -> bool
+    ensures { λ x. ⌜ x ≡ all (mayHoldBy (present .seen) p) (fieldsOf h o) ⌝ }
 {
-    let h = t.heap;
     let mut f: u8 = 0;
     while f < Heap::FIELDS {
         let x = h.field(o, f);
-        if !may_hold(t, p, x) {
+        if !may_hold(present, p, x) {
             return false;
         }
         f += 1;
@@ -104,23 +123,23 @@ pub(crate) fn fields_allowed(t: Table, p: u8, o: u8) -> bool
 }
 
 // The same if the object is kept; the fields of one that isn't kept are not asked.
-pub(crate) fn object_allowed(t: Table, p: u8, marks: Marks, o: u8) -> bool
+pub(crate) fn object_allowed(h: Heap, p: u8, present: Marks, marks: Marks, o: u8) -> bool
     requires { ⌜ o < OBJECTS ⌝ }
-    ensures { λ x. ⌜ x ≡ all (mayHold t p) (if isMarked (marks .seen) o then fieldsOf (t .heap) o else []) ⌝ }
+    ensures { λ x. ⌜ x ≡ all (mayHoldBy (present .seen) p) (if isMarked (marks .seen) o then fieldsOf h o else []) ⌝ }
 {
     if !is_marked(marks, o) {
         return true;
     }
-    fields_allowed(t, p, o)
+    fields_allowed(h, p, present, o)
 }
 
 // Every kept object holds what p may hold.
-pub(crate) fn objects_allowed(t: Table, p: u8, marks: Marks) -> bool
-    ensures { λ x. ⌜ x ≡ all (mayHold t p) (heldBy (t .heap) (marks .seen)) ⌝ }
+pub(crate) fn objects_allowed(h: Heap, p: u8, present: Marks, marks: Marks) -> bool
+    ensures { λ x. ⌜ x ≡ all (mayHoldBy (present .seen) p) (heldBy h (marks .seen)) ⌝ }
 {
     let mut o: u8 = 0;
     while o < Heap::OBJECTS {
-        if !object_allowed(t, p, marks, o) {
+        if !object_allowed(h, p, present, marks, o) {
             return false;
         }
         o += 1;
@@ -153,29 +172,27 @@ pub(crate) fn marked_live(h: Heap, marks: Marks) -> bool
     true
 }
 
-// An object started from or reached isn't live, or p holds what it may not.
-pub(crate) fn collect_torn(t: Table, p: u8, marks: Marks) -> bool
-    ensures { λ x. ⌜ x ≡ collectTorn t p (marks .seen) (heldAt t p (marks .seen)) ⌝ }
+// Every kept object is live, and p holds only what it may.
+pub(crate) fn is_whole(h: Heap, p: u8, present: Marks, marks: Marks) -> bool
+    ensures { λ x. ⌜ x ≡ isWhole h p (present .seen) (marks .seen) ⌝ }
 {
-    let h = t.heap;
     if !marked_live(h, marks) {
-        return true;
+        return false;
     }
-    if !roots_allowed(t, p) {
-        return true;
+    if !roots_allowed(h, p, present) {
+        return false;
     }
-    !objects_allowed(t, p, marks)
+    objects_allowed(h, p, present, marks)
 }
 
 // A live object of p that was not reached.
-pub(crate) fn is_reclaimed(t: Table, p: u8, marks: Marks, o: u8) -> bool
+pub(crate) fn is_reclaimed(h: Heap, p: u8, marks: Marks, o: u8) -> bool
     requires { ⌜ o < OBJECTS ⌝ }
-    ensures { λ x. ⌜ x ≡ isReclaimed t p (marks .seen) o ⌝ }
+    ensures { λ x. ⌜ x ≡ reclaims h p (marks .seen) o ⌝ }
 {
     if o / Heap::OWNED != p {
         return false;
     }
-    let h = t.heap;
     if !h.is_live(o) {
         return false;
     }
@@ -183,13 +200,13 @@ pub(crate) fn is_reclaimed(t: Table, p: u8, marks: Marks, o: u8) -> bool
 }
 
 // How many objects are reclaimed.
-pub(crate) fn reclaimed(t: Table, p: u8, marks: Marks) -> u32
-    ensures { λ x. ⌜ x ≡ howMany OBJECTS (isReclaimed t p (marks .seen)) ⌝ }
+pub(crate) fn reclaimed(h: Heap, p: u8, marks: Marks) -> u32
+    ensures { λ x. ⌜ x ≡ howMany OBJECTS (reclaims h p (marks .seen)) ⌝ }
 {
     let mut n: u32 = 0;
     let mut o: u8 = 0;
     while o < Heap::OBJECTS {
-        if is_reclaimed(t, p, marks, o) {
+        if is_reclaimed(h, p, marks, o) {
             n += 1;
         }
         o += 1;
@@ -198,63 +215,71 @@ pub(crate) fn reclaimed(t: Table, p: u8, marks: Marks) -> u32
 }
 
 // Reclaimed objects stop being live, their fields emptied.
-pub(crate) fn heap_collected(t: Table, p: u8, marks: Marks) -> Heap
-    ensures { λ x. ⌜ x ≡ heapCollected t p (marks .seen) ⌝ }
+pub(crate) fn heap_collected(h: Heap, p: u8, marks: Marks) -> Heap
+    ensures { λ x. ⌜ x ≡ withoutReclaimed h p (marks .seen) ⌝ }
 {
-    let mut h = t.heap;
+    let mut after = h;
     let mut o: u8 = 0;
     while o < Heap::OBJECTS {
-        if is_reclaimed(t, p, marks, o) {
-            h = h.with_idle(o);
+        if is_reclaimed(h, p, marks, o) {
+            after = after.with_idle(o);
         }
-        o += 1;
-    }
-    h
-}
-
-// The directory of a reclaimed object goes with it; a remote entry at p that nothing holds gets Presence false.
-pub(crate) fn cell_collected(t: Table, p: u8, marks: Marks, held: Marks, o: u8, c: Cell) -> Cell
-    requires { ⌜ o < OBJECTS ⌝ }
-    requires { ⌜ held .seen ≡ list OBJECTS (holds (heldAt t p (marks .seen))) ⌝ }
-    ensures { λ x. ⌜ x ≡ cellCollected t p (marks .seen) (heldAt t p (marks .seen)) o c ⌝ }
-{
-    if o / Heap::OWNED == p {
-        if is_reclaimed(t, p, marks, o) {
-            return c.with_entry(p, Entry::Absent);
-        }
-        return c;
-    }
-    if is_marked(held, o) {
-        return c;
-    }
-    let e = c.entry_in(p);
-    c.with_entry(p, e.set_unused())
-}
-
-// The table with its cells after the collection.
-pub(crate) fn cells_collected(t: Table, p: u8, marks: Marks, held: Marks) -> Table
-    requires { ⌜ held .seen ≡ list OBJECTS (holds (heldAt t p (marks .seen))) ⌝ }
-    ensures { λ x. ⌜ x ≡ withCells t (list OBJECTS (λ o. cellCollected t p (marks .seen) (heldAt t p (marks .seen)) o (cellAt t o))) ⌝ }
-{
-    let mut after = t;
-    let mut o: u8 = 0;
-    while o < Heap::OBJECTS {
-        let i = o as usize;
-        let cell = t.cells[i];
-        let collected = cell_collected(t, p, marks, held, o, cell);
-        after.cells[i] = collected;
         o += 1;
     }
     after
 }
 
+// The collection changes what stands for the object at p.
+pub(crate) fn is_changed(h: Heap, p: u8, marks: Marks, present: Marks, held: Marks, o: u8) -> bool
+    requires { ⌜ o < OBJECTS ⌝ }
+    ensures { λ x. ⌜ x ≡ changes h p (marks .seen) (present .seen) (held .seen) o ⌝ }
+{
+    if o / Heap::OWNED == p {
+        return is_reclaimed(h, p, marks, o);
+    }
+    if is_marked(held, o) {
+        return false;
+    }
+    is_marked(present, o)
+}
+
+// What then stands for it: the directory of a reclaimed object goes with it; a remote entry that nothing holds gets Presence false.
+pub(crate) fn entry_changed(p: u8, o: u8, e: Entry) -> Entry
+    ensures { λ x. ⌜ x ≡ (if ownedBy p o then Absent else setUnused e) ⌝ }
+{
+    if o / Heap::OWNED == p {
+        return Entry::Absent;
+    }
+    e.set_unused()
+}
+
 // The table after the collection.
-pub(crate) fn with_collected(t: Table, p: u8, marks: Marks, held: Marks) -> Table
+pub(crate) fn with_collected(
+    mut t: Table,
+    p: u8,
+    marks: Marks,
+    present: Marks,
+    held: Marks,
+) -> Table
+    requires { ⌜ present .seen ≡ presentAt t p ⌝ }
     requires { ⌜ held .seen ≡ list OBJECTS (holds (heldAt t p (marks .seen))) ⌝ }
     ensures { λ x. ⌜ x ≡ withCollected t p (marks .seen) (heldAt t p (marks .seen)) ⌝ }
 {
-    let cleared = cells_collected(t, p, marks, held);
-    cleared.with_heap(heap_collected(t, p, marks))
+    let h = t.heap;
+    let mut o: u8 = 0;
+    while o < Heap::OBJECTS {
+        if is_changed(h, p, marks, present, held, o) {
+            let i = o as usize;
+            let cell = t.cells[i];
+            let e = cell.entry_in(p);
+            let changed = cell.with_entry(p, entry_changed(p, o, e));
+            t.cells[i] = changed;
+        }
+        o += 1;
+    }
+    let after = heap_collected(h, p, marks);
+    t.heap = after;
+    t
 }
 
 pub(crate) fn collect(t: Table, p: u8) -> Outcome
@@ -262,11 +287,15 @@ pub(crate) fn collect(t: Table, p: u8) -> Outcome
     ensures { λ x. ⌜ x ≡ by t (collect t p) ⌝ }
 {
     let marks = kept(t, p);
-    if collect_torn(t, p, marks) {
+    let present = present(t, p);
+    let h = t.heap;
+    if !is_whole(h, p, present, marks) {
         return refused(t, Outcome::TORN);
     }
-    let h = t.heap;
     let held = h.held(p, marks);
-    let n = reclaimed(t, p, marks);
-    did(Deed::Collected(n), with_collected(t, p, marks, held))
+    let n = reclaimed(h, p, marks);
+    did(
+        Deed::Collected(n),
+        with_collected(t, p, marks, present, held),
+    )
 }

@@ -13,16 +13,17 @@ use table::Table;
 ghost use mathlib.Core.Path.{_≡_};
 ghost use Rattle.step.specs.Outcome.{by};
 ghost use Rattle.step.specs.Receive.{receive, receiveOf, receiveTorn, reply, receipt, withReceived};
+ghost use Rattle.table.specs.Table.{entryAt};
 ghost use Rattle.table.specs.declared.Message.the-variants.{Reference};
 
 // At the owner, the object not live or no directory; or a count that would leave its range.
-pub(crate) fn receive_torn(t: Table, from: u8, to: u8, o: u8) -> bool
+pub(crate) fn receive_torn(t: Table, from: u8, to: u8, o: u8, e: Entry) -> bool
+    requires { ⌜ e ≡ entryAt t to o ⌝ }
     ensures { λ x. ⌜ x ≡ receiveTorn t from to o ⌝ }
 {
     if is_dead_own(t, to, o) {
         return true;
     }
-    let e = t.entry_at(to, o);
     let act = e.received(from, to, o);
     act.refuses()
 }
@@ -68,10 +69,10 @@ pub(crate) fn receipt(s: u8, from: u8, e: Entry) -> Deed
 }
 
 // The reference leaves its place, the receiver's entry takes it, and root r holds it.
-pub(crate) fn with_received(t: Table, s: u8, r: u8, from: u8, to: u8, o: u8) -> Table
+pub(crate) fn with_received(t: Table, s: u8, r: u8, from: u8, to: u8, o: u8, e: Entry) -> Table
+    requires { ⌜ e ≡ entryAt t to o ⌝ }
     ensures { λ x. ⌜ x ≡ withReceived t s r from to o ⌝ }
 {
-    let e = t.entry_at(to, o);
     let act = e.received(from, to, o);
     let left = t.with_message(s, reply(from, to, o, e));
     let receiver = act.entry;
@@ -87,11 +88,11 @@ pub(crate) fn receive_reference(t: Table, s: u8, r: u8, from: u8, to: u8, o: u8)
     if h.root(to, r) != Heap::NONE {
         return refused(t, Outcome::ROOT);
     }
-    if receive_torn(t, from, to, o) {
+    let e = t.entry_at(to, o);
+    if receive_torn(t, from, to, o, e) {
         return refused(t, Outcome::TORN);
     }
-    let e = t.entry_at(to, o);
-    did(receipt(s, from, e), with_received(t, s, r, from, to, o))
+    did(receipt(s, from, e), with_received(t, s, r, from, to, o, e))
 }
 
 pub(crate) fn receive(t: Table, s: u8, r: u8) -> Outcome

@@ -1,22 +1,33 @@
 -- `step::collect::collect` meets its contract: the walk, the test, and the effect. Assumes nothing.
-use mathlib.Core.Path.{sym, _∙_}
+use mathlib.Core.Path.{_∙_}
 use borrow.Author.Needs.{needs}
 use Rattle.step.specs.Collect.{collectHolding, collectKeeping}
+use Rattle.step.proofs.CollectLaws.{torn-by}
 use Rattle.step.proofs.collect.collect.Statement.{statement}
 use Rattle.step.proofs.collect.collect.Tie as tie
 
 kept-requires : tie.Need-kept-requires
 kept-requires c κs = search needs
 
-collect-torn-requires : tie.Need-collect-torn-requires
-collect-torn-requires c κs = search needs
+present-requires : tie.Need-present-requires
+present-requires c κs = search needs
+
+is-whole-requires : tie.Need-is-whole-requires
+is-whole-requires c κs = search needs
 
 refused-requires : tie.Need-refused-requires
 refused-requires c κs = search needs
 
 returns : tie.Need-returns
 unfolding collectKeeping collectHolding
-returns c = rw (c .refused .ensures, ← c .before .before .before .kept .ensures, sym (c .before .before .collect-torn .ensures) ∙ c .before .if1 .taken)
+returns c =
+    let w = c .before .before in
+    let s = w .before .before .before .before in
+    let k = w .before .before .before .kept in
+    let h = w .before .before .present in
+    let torn =
+    torn-by (s .args .t) (s .good .0) (s .args .p) (k .result .seen) (h .result .seen) (w .is-whole .result) (h .ensures) (w .is-whole .ensures) ∙ c .before .if1 .taken in
+    rw (c .refused .ensures, ← k .ensures, torn)
 
 held-requires : tie.Need-held-requires
 held-requires c κs = search needs
@@ -32,14 +43,23 @@ did-requires c κs = search needs
 
 returns-2 : tie.Need-returns-2
 unfolding collectKeeping collectHolding
-returns-2 c = rw (c .did .ensures, c .before .with-collected .ensures, c .before .before .reclaimed .ensures, ← c .before .before .before .before .before .before .before .kept .ensures, sym (c .before .before .before .before .before .before .collect-torn .ensures) ∙ c .before .before .before .before .before .if1 .left)
+returns-2 c =
+    let i = c .before .before .before .before in
+    let w = i .before in
+    let s = w .before .before .before .before in
+    let k = w .before .before .before .kept in
+    let h = w .before .before .present in
+    let whole =
+    torn-by (s .args .t) (s .good .0) (s .args .p) (k .result .seen) (h .result .seen) (w .is-whole .result) (h .ensures) (w .is-whole .ensures) ∙ i .if1 .left in
+    rw (c .did .ensures, c .before .with-collected .ensures, c .before .before .reclaimed .ensures, ← k .ensures, whole)
 
 pub collect-spec : {M : Type 1} → statement M
 collect-spec =
     tie.close
     (tie.spec
     kept-requires
-    collect-torn-requires
+    present-requires
+    is-whole-requires
     refused-requires
     returns
     held-requires

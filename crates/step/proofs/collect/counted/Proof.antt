@@ -1,5 +1,5 @@
 -- `step::collect::counted` meets its contract. The invariant: the tests below `k` are written. Assumes nothing.
-use mathlib.Core.Path.{_≡_, refl}
+use mathlib.Core.Path.{refl}
 use mathlib.Core.Bool.{Bool, false, not}
 use Prim.Native.Nat.{ℕ, _+_, _*_, _-_, _≤_}
 use native.Mathlib.Omega.{arith}
@@ -19,10 +19,10 @@ abbrev countedAt : Table → ℕ → ℕ → Bool
 countedAt t p k = not (isClear (entryAt t p (OWNED * p + k)))
 
 abbrev Inv-loop : tie.InvT-loop
-Inv-loop t p tests₀ k₀ tests k = (k ≤ OWNED) × Filled false (countedAt t p) (replicate OWNED false) k tests
+Inv-loop p t tests₀ k₀ tests k = (k ≤ OWNED) × Filled false (countedAt t p) (replicate OWNED false) k tests
 
 abbrev μ-loop : tie.MeasureT-loop
-μ-loop t p tests₀ k₀ tests k = OWNED - k
+μ-loop p t tests₀ k₀ tests k = OWNED - k
 
 loop-holds : tie.Need-loop-holds Inv-loop μ-loop
 loop-holds c = (omega arith, filled-none)
@@ -33,8 +33,17 @@ mul-o c = omega arith
 add-o : tie.Need-add-o Inv-loop μ-loop
 add-o c = omega arith
 
-entry-at-requires : tie.Need-entry-at-requires Inv-loop μ-loop
-entry-at-requires c κs = search needs
+cast-own : tie.Need-cast-own Inv-loop μ-loop
+cast-own c = omega arith
+
+mul-cell : tie.Need-mul-cell Inv-loop μ-loop
+mul-cell c = omega arith
+
+element-copy-out-cell : tie.Need-element-copy-out-cell Inv-loop μ-loop
+element-copy-out-cell c = search needs
+
+entry-in-requires : tie.Need-entry-in-requires Inv-loop μ-loop
+entry-in-requires c κs = search needs
 
 cast-i : tie.Need-cast-i Inv-loop μ-loop
 cast-i c = omega arith
@@ -53,8 +62,8 @@ loop-less c = omega arith
 
 loop-again : tie.Need-loop-again Inv-loop μ-loop
 loop-again c =
-    let l = c .before .before .before in
-    (omega arith, filled-set (l .loop .inv .1) _ (c .before .before .loop-test .taken) (rw (c .is-clear .ensures, c .before .entry-at .ensures)))
+    let l = c .before .before .before .before in
+    (omega arith, filled-set (l .loop .inv .1) _ (c .before .before .before .loop-test .taken) (rw (c .is-clear .ensures, c .before .entry-in .ensures)))
 
 returns : tie.Need-returns Inv-loop μ-loop
 unfolding counted
@@ -69,7 +78,10 @@ counted-spec =
     loop-holds
     mul-o
     add-o
-    entry-at-requires
+    cast-own
+    mul-cell
+    element-copy-out-cell
+    entry-in-requires
     cast-i
     is-clear-requires
     array-write-tests

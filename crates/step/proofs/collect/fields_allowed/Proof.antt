@@ -8,19 +8,19 @@ use Rattle.terms.specs.Counted.{all, everyFrom, listFrom}
 use Rattle.terms.specs.CountedLaws.{all-list, everyFrom-passes, everyFrom-fails, everyFrom-none}
 use Rattle.terms.specs.Limits.{FIELDS}
 use Rattle.heap.specs.Heap.{fieldAt, fieldsOf}
-use Rattle.step.specs.Collect.{mayHold}
+use Rattle.step.specs.CollectParts.{mayHoldBy}
 use Rattle.step.proofs.collect.fields_allowed.Statement.{statement}
 use Rattle.step.proofs.collect.fields_allowed.Tie as tie
 
 abbrev Inv-loop : tie.InvT-loop
-Inv-loop t p o h f₀ f = (f ≤ FIELDS) × (all (mayHold t p) (fieldsOf (t .heap) o) ≡ everyFrom f (FIELDS - f) (λ k. mayHold t p (fieldAt (t .heap) o k)))
+Inv-loop h p present o f₀ f = (f ≤ FIELDS) × (all (mayHoldBy (present .seen) p) (fieldsOf h o) ≡ everyFrom f (FIELDS - f) (λ k. mayHoldBy (present .seen) p (fieldAt h o k)))
 
 abbrev μ-loop : tie.MeasureT-loop
-μ-loop t p o h f₀ f = FIELDS - f
+μ-loop h p present o f₀ f = FIELDS - f
 
 loop-holds : tie.Need-loop-holds Inv-loop μ-loop
 unfolding listFrom
-loop-holds c = (omega arith, all-list (mayHold (c .before .args .t) (c .before .args .p)) 0 FIELDS (fieldAt (c .before .args .t .heap) (c .before .args .o)))
+loop-holds c = (omega arith, all-list (mayHoldBy (c .args .present .seen) (c .args .p)) 0 FIELDS (fieldAt (c .args .h) (c .args .o)))
 
 field-requires : tie.Need-field-requires Inv-loop μ-loop
 field-requires c κs = search needs

@@ -16,9 +16,8 @@ use Rattle.heap.specs.declared.Object.{Object}
 use Rattle.heap.specs.declared.Roots.{Roots}
 use Rattle.heap.specs.declared.Heap.{Heap}
 use Rattle.heap.specs.Heap.{idle, objectAt}
-use Rattle.table.specs.declared.Table.{Table}
-use Rattle.table.proofs.Table as table
-use Rattle.step.specs.Collect.{heapCollected, isReclaimed}
+use Rattle.heap.proofs.Heap as heap
+use Rattle.step.specs.CollectParts.{reclaims}
 use Rattle.step.proofs.collect.heap_collected.Statement.{statement}
 use Rattle.step.proofs.collect.heap_collected.Tie as tie
 
@@ -27,21 +26,21 @@ abbrev none : Object
 none = record { live = false; fields = [] }
 
 -- object k after the collection
-abbrev objectCollected : Table → ℕ → List Bool → ℕ → Object
-objectCollected t p marks k = if isReclaimed t p marks k then idle else objectAt (t .heap) k
+abbrev objectCollected : Heap → ℕ → List Bool → ℕ → Object
+objectCollected h p marks k = if reclaims h p marks k then idle else objectAt h k
 
 -- the type fixes how many objects there are
-objects-length : {vs : List Val} (t : Table) → Is table.the-row t vs → length (t .heap .objects) ≡ OBJECTS
-objects-length t good = simp length-map at (good .1 .1 .1 .0 .1 .1 .0 .1 .0 .1)
+objects-length : {vs : List Val} (h : Heap) → Is heap.the-row h vs → length (h .objects) ≡ OBJECTS
+objects-length h good = simp length-map at (good .1 .1 .0 .1 .0 .1)
 
 heap-is : (h : Heap) {objects : List Object} {roots : List Roots} → h .objects ≡ objects → h .roots ≡ roots → h ≡ record { objects = objects; roots = roots }
 heap-is h os rs = rw (← os, ← rs)
 
 abbrev Inv-loop : tie.InvT-loop
-Inv-loop t p marks h₀ o₀ h o = (o ≤ OBJECTS) × Filled none (objectCollected t p (marks .seen)) (t .heap .objects) o (h .objects) × (h .roots ≡ t .heap .roots)
+Inv-loop h p marks after₀ o₀ after o = (o ≤ OBJECTS) × Filled none (objectCollected h p (marks .seen)) (h .objects) o (after .objects) × (after .roots ≡ h .roots)
 
 abbrev μ-loop : tie.MeasureT-loop
-μ-loop t p marks h₀ o₀ h o = OBJECTS - o
+μ-loop h p marks after₀ o₀ after o = OBJECTS - o
 
 loop-holds : tie.Need-loop-holds Inv-loop μ-loop
 loop-holds c = (omega arith, filled-none, refl)
@@ -61,18 +60,17 @@ loop-less c = omega arith
 loop-again : tie.Need-loop-again Inv-loop μ-loop
 loop-again c =
     let l = c .before .before .before in
-    let n = objects-length (l .before .before .args .t) (l .before .before .good .0) in
+    let n = objects-length (l .before .args .h) (l .before .good .0) in
     ⊎-elim
     (λ w. rw (w .2, w .1 .ensures) (omega arith, filled-set (l .loop .inv .1) idle (omega (arith, n)) (rw (sym (c .before .is-reclaimed .ensures) ∙ w .0 .taken)), l .loop .inv .2))
     (λ w. rw (w .1) (omega arith, filled-keep (l .loop .inv .1) (rw (sym (c .before .is-reclaimed .ensures) ∙ w .0 .left)), l .loop .inv .2))
     (c .if1 .came)
 
 returns : tie.Need-returns Inv-loop μ-loop
-unfolding heapCollected
 returns c =
-    let s = c .before .before .before in
+    let s = c .before .before in
     let l = c .before .loop in
-    heap-is (l .h) (filled-all (l .inv .1) OBJECTS (objects-length (s .args .t) (s .good .0)) (c .loop-test .left)) (l .inv .2)
+    heap-is (l .after) (filled-all (l .inv .1) OBJECTS (objects-length (s .args .h) (s .good .0)) (c .loop-test .left)) (l .inv .2)
 
 pub heap-collected-spec : {M : Type 1} → statement M
 heap-collected-spec =

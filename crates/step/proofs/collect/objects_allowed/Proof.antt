@@ -11,19 +11,21 @@ use Rattle.terms.specs.CountedLaws.{all-gather, everyFrom-passes, everyFrom-fai
 use Rattle.terms.specs.Limits.{OBJECTS}
 use Rattle.heap.specs.Heap.{fieldsOf}
 use Rattle.heap.specs.Walk.{heldBy, isMarked}
-use Rattle.step.specs.Collect.{mayHold}
+use Rattle.step.specs.CollectParts.{mayHoldBy}
 use Rattle.step.proofs.collect.objects_allowed.Statement.{statement}
 use Rattle.step.proofs.collect.objects_allowed.Tie as tie
 
 abbrev Inv-loop : tie.InvT-loop
-Inv-loop t p marks o₀ o = (o ≤ OBJECTS) × (all (mayHold t p) (heldBy (t .heap) (marks .seen)) ≡ everyFrom o (OBJECTS - o) (λ k. all (mayHold t p) (if isMarked (marks .seen) k then fieldsOf (t .heap) k else [])))
+Inv-loop h p present marks o₀ o =
+    (o ≤ OBJECTS)
+    × (all (mayHoldBy (present .seen) p) (heldBy h (marks .seen)) ≡ everyFrom o (OBJECTS - o) (λ k. all (mayHoldBy (present .seen) p) (if isMarked (marks .seen) k then fieldsOf h k else [])))
 
 abbrev μ-loop : tie.MeasureT-loop
-μ-loop t p marks o₀ o = OBJECTS - o
+μ-loop h p present marks o₀ o = OBJECTS - o
 
 loop-holds : tie.Need-loop-holds Inv-loop μ-loop
 unfolding heldBy
-loop-holds c = (omega arith, all-gather (mayHold (c .args .t) (c .args .p)) 0 OBJECTS (λ k. if isMarked (c .args .marks .seen) k then fieldsOf (c .args .t .heap) k else []))
+loop-holds c = (omega arith, all-gather (mayHoldBy (c .args .present .seen) (c .args .p)) 0 OBJECTS (λ k. if isMarked (c .args .marks .seen) k then fieldsOf (c .args .h) k else []))
 
 object-allowed-requires : tie.Need-object-allowed-requires Inv-loop μ-loop
 object-allowed-requires c κs = search needs

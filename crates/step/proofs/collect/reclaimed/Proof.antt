@@ -1,5 +1,5 @@
 -- `step::collect::reclaimed` meets its contract. The invariant: `n` objects below `o` are reclaimed. Assumes nothing.
-use mathlib.Core.Path.{_≡_, refl, sym, ap, _∙_}
+use mathlib.Core.Path.{_≡_, refl, sym, _∙_}
 use mathlib.Core.Logic.{⊎-elim}
 use Prim.Native.Nat.{_+_, _-_, _≤_}
 use native.Mathlib.Numerals.{add-one}
@@ -8,15 +8,15 @@ use borrow.Author.Needs.{needs}
 use Rattle.terms.specs.Counted.{howMany, one, sumFrom}
 use Rattle.terms.specs.CountedLaws.{sum-last}
 use Rattle.terms.specs.Limits.{OBJECTS}
-use Rattle.step.specs.Collect.{isReclaimed}
+use Rattle.step.specs.CollectParts.{reclaims}
 use Rattle.step.proofs.collect.reclaimed.Statement.{statement}
 use Rattle.step.proofs.collect.reclaimed.Tie as tie
 
 abbrev Inv-loop : tie.InvT-loop
-Inv-loop t p marks n₀ o₀ n o = (o ≤ OBJECTS) × (n ≤ o) × (n ≡ howMany o (isReclaimed t p (marks .seen)))
+Inv-loop h p marks n₀ o₀ n o = (o ≤ OBJECTS) × (n ≤ o) × (n ≡ howMany o (reclaims h p (marks .seen)))
 
 abbrev μ-loop : tie.MeasureT-loop
-μ-loop t p marks n₀ o₀ n o = OBJECTS - o
+μ-loop h p marks n₀ o₀ n o = OBJECTS - o
 
 loop-holds : tie.Need-loop-holds Inv-loop μ-loop
 unfolding sumFrom
@@ -38,7 +38,7 @@ loop-again : tie.Need-loop-again Inv-loop μ-loop
 loop-again c =
     let l = c .before .before .before in
     let a = l .before .args in
-    let test = isReclaimed (a .t) (a .p) (a .marks .seen) in
+    let test = reclaims (a .h) (a .p) (a .marks .seen) in
     let last : howMany (l .loop .o + 1) test ≡ l .loop .n + one (c .before .is-reclaimed .result) =
     rw (add-one (l .loop .o), c .before .is-reclaimed .ensures, l .loop .inv .2) (sum-last (l .loop .o) (λ k. one (test k)))
     in

@@ -8,19 +8,19 @@ use Rattle.terms.specs.Counted.{all, everyFrom, listFrom}
 use Rattle.terms.specs.CountedLaws.{all-list, everyFrom-passes, everyFrom-fails, everyFrom-none}
 use Rattle.terms.specs.Limits.{ROOTS}
 use Rattle.heap.specs.Heap.{rootAt, rootsOf}
-use Rattle.step.specs.Collect.{mayHold}
+use Rattle.step.specs.CollectParts.{mayHoldBy}
 use Rattle.step.proofs.collect.roots_allowed.Statement.{statement}
 use Rattle.step.proofs.collect.roots_allowed.Tie as tie
 
 abbrev Inv-loop : tie.InvT-loop
-Inv-loop t p h r₀ r = (r ≤ ROOTS) × (all (mayHold t p) (rootsOf (t .heap) p) ≡ everyFrom r (ROOTS - r) (λ k. mayHold t p (rootAt (t .heap) p k)))
+Inv-loop h p present r₀ r = (r ≤ ROOTS) × (all (mayHoldBy (present .seen) p) (rootsOf h p) ≡ everyFrom r (ROOTS - r) (λ k. mayHoldBy (present .seen) p (rootAt h p k)))
 
 abbrev μ-loop : tie.MeasureT-loop
-μ-loop t p h r₀ r = ROOTS - r
+μ-loop h p present r₀ r = ROOTS - r
 
 loop-holds : tie.Need-loop-holds Inv-loop μ-loop
 unfolding listFrom
-loop-holds c = (omega arith, all-list (mayHold (c .before .args .t) (c .before .args .p)) 0 ROOTS (rootAt (c .before .args .t .heap) (c .before .args .p)))
+loop-holds c = (omega arith, all-list (mayHoldBy (c .args .present .seen) (c .args .p)) 0 ROOTS (rootAt (c .args .h) (c .args .p)))
 
 root-requires : tie.Need-root-requires Inv-loop μ-loop
 root-requires c κs = search needs

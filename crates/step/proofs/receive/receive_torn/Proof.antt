@@ -10,9 +10,6 @@ is-dead-own-requires c κs = search needs
 returns : tie.Need-returns
 returns c = rw (sym (c .before .is-dead-own .ensures) ∙ c .if1 .taken)
 
-entry-at-requires : tie.Need-entry-at-requires
-entry-at-requires c κs = search needs
-
 received-requires : tie.Need-received-requires
 received-requires c κs = search needs
 
@@ -20,7 +17,7 @@ refuses-requires : tie.Need-refuses-requires
 refuses-requires c κs = search needs
 
 returns-2 : tie.Need-returns-2
-returns-2 c = rw (c .refuses .ensures, c .before .received .ensures, c .before .before .entry-at .ensures, sym (c .before .before .before .before .is-dead-own .ensures) ∙ c .before .before .before .if1 .left)
+returns-2 c = rw (c .refuses .ensures, c .before .received .ensures, c .before .before .before .before .pre, sym (c .before .before .before .is-dead-own .ensures) ∙ c .before .before .if1 .left)
 
 pub receive-torn-spec : {M : Type 1} → statement M
 receive-torn-spec =
@@ -28,7 +25,6 @@ receive-torn-spec =
     (tie.spec
     is-dead-own-requires
     returns
-    entry-at-requires
     received-requires
     refuses-requires
     returns-2)

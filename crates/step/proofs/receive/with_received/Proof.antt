@@ -3,9 +3,6 @@ use borrow.Author.Needs.{needs}
 use Rattle.step.proofs.receive.with_received.Statement.{statement}
 use Rattle.step.proofs.receive.with_received.Tie as tie
 
-entry-at-requires : tie.Need-entry-at-requires
-entry-at-requires c κs = search needs
-
 received-requires : tie.Need-received-requires
 received-requires c κs = search needs
 
@@ -25,13 +22,12 @@ with-heap-requires : tie.Need-with-heap-requires
 with-heap-requires c κs = search needs
 
 returns : tie.Need-returns
-returns c = simp (c .before .before .before .before .before .before .before .entry-at .ensures, c .before .before .before .before .before .before .received .ensures, c .before .before .before .before .before .reply .ensures, c .before .before .before .before .with-message .ensures, c .before .before .before .with-entry .ensures, c .before .with-root .ensures, c .with-heap .ensures)
+returns c = simp (c .before .before .before .before .before .before .before .pre, c .before .before .before .before .before .before .received .ensures, c .before .before .before .before .before .reply .ensures, c .before .before .before .before .with-message .ensures, c .before .before .before .with-entry .ensures, c .before .with-root .ensures, c .with-heap .ensures)
 
 pub with-received-spec : {M : Type 1} → statement M
 with-received-spec =
     tie.close
     (tie.spec
-    entry-at-requires
     received-requires
     reply-requires
     with-message-requires

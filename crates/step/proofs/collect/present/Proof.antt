@@ -1,0 +1,72 @@
+-- `step::collect::present` meets its contract. The invariant: the marks below `o` are written. Assumes nothing.
+use mathlib.Core.Path.{refl}
+use mathlib.Core.Bool.{false}
+use Prim.Native.Nat.{_-_, _≤_}
+use native.Mathlib.Omega.{arith}
+use lib.ListN.{replicate}
+use borrow.Author.Needs.{needs}
+use Rattle.terms.specs.CountedLaws.{Filled, filled-none, filled-set, filled-all}
+use Rattle.terms.specs.Limits.{OBJECTS}
+use Rattle.entry.specs.Entry.{isPresent}
+use Rattle.table.specs.Table.{entryAt}
+use Rattle.step.proofs.collect.present.Statement.{statement}
+use Rattle.step.proofs.collect.present.Tie as tie
+
+abbrev Inv-loop : tie.InvT-loop
+Inv-loop p t seen₀ o₀ seen o = (o ≤ OBJECTS) × Filled false (λ k. isPresent (entryAt t p k)) (replicate OBJECTS false) o seen
+
+abbrev μ-loop : tie.MeasureT-loop
+μ-loop p t seen₀ o₀ seen o = OBJECTS - o
+
+loop-holds : tie.Need-loop-holds Inv-loop μ-loop
+loop-holds c = (omega arith, filled-none)
+
+cast-i : tie.Need-cast-i Inv-loop μ-loop
+cast-i c = omega arith
+
+mul-cell : tie.Need-mul-cell Inv-loop μ-loop
+mul-cell c = omega arith
+
+element-copy-out-cell : tie.Need-element-copy-out-cell Inv-loop μ-loop
+element-copy-out-cell c = search needs
+
+entry-in-requires : tie.Need-entry-in-requires Inv-loop μ-loop
+entry-in-requires c κs = search needs
+
+is-present-requires : tie.Need-is-present-requires Inv-loop μ-loop
+is-present-requires c κs = search needs
+
+array-write-seen : tie.Need-array-write-seen Inv-loop μ-loop
+array-write-seen c = search needs
+
+add-o : tie.Need-add-o Inv-loop μ-loop
+add-o c = omega arith
+
+loop-less : tie.Need-loop-less Inv-loop μ-loop
+loop-less c = omega arith
+
+loop-again : tie.Need-loop-again Inv-loop μ-loop
+loop-again c =
+    let l = c .before .before .before .before in
+    (omega arith, filled-set (l .loop .inv .1) _ (c .before .before .before .loop-test .taken) (rw (c .is-present .ensures, c .before .entry-in .ensures)))
+
+returns : tie.Need-returns Inv-loop μ-loop
+returns c = filled-all (c .before .loop .inv .1) OBJECTS refl (c .loop-test .left)
+
+pub present-spec : {M : Type 1} → statement M
+present-spec =
+    tie.close
+    (tie.spec
+    Inv-loop
+    μ-loop
+    loop-holds
+    cast-i
+    mul-cell
+    element-copy-out-cell
+    entry-in-requires
+    is-present-requires
+    array-write-seen
+    add-o
+    loop-less
+    loop-again
+    returns)
