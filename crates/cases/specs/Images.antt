@@ -1,13 +1,15 @@
--- The fresh image and the largest, proved by computation: 116 and 11,508 bytes. Assumes nothing.
+-- The fresh image and the largest, proved by computation: 116 and 11,508 bytes; and a host's first calls. Assumes nothing.
 use mathlib.Core.Path.{_≡_, refl}
 use mathlib.Core.Bool.{Bool, true, false}
-use Prim.Native.Nat.{ℕ, _+_, _%_}
+use mathlib.Core.List.{[]}
+use Prim.Native.Nat.{ℕ, _+_, _*_, _%_}
 use lib.Dec.{eqb}
 use lib.IntN.{pos, negsuc}
 use lib.ListN.{length, replicate}
 use Rattle.terms.specs.Choose.{if_then_else_}
 use Rattle.terms.specs.Counted.{list}
-use Rattle.terms.specs.Limits.{NODES, OBJECTS, PLACES, FIELDS, ROOTS, MOST, EVENTS, owner}
+use Rattle.terms.specs.Limits.{NODES, OBJECTS, PLACES, FIELDS, ROOTS, MOST, EVENTS, UNREACHED, owner}
+use Rattle.terms.specs.Numbers.{ACCEPTED, SHORT, ROOM}
 use Rattle.entry.specs.declared.Entry.{Entry}
 use Rattle.entry.specs.declared.Entry.the-variants.{AtOwner, Elsewhere}
 use Rattle.entry.specs.Acts.{directory}
@@ -18,6 +20,7 @@ use Rattle.table.specs.Shape.{fitsTable}
 use Rattle.table.specs.Table.{freshTable}
 use Rattle.image.specs.Reader.{read}
 use Rattle.image.specs.Writer.{image}
+use Rattle.etzvanul.specs.HostCall.{startNumber, startBytes, checkNumber, depthCall}
 use Rattle.cases.specs.Rules.{rules}
 
 pub fresh-length : length (image freshTable) ≡ 116
@@ -60,3 +63,15 @@ full-length = (refl, refl)
 pub both-read : (read (image freshTable) .table ≡ freshTable) × (read (image full) .table ≡ full)
 unfolding rules
 both-read = (refl, refl)
+
+-- ---- a host's first calls
+
+-- the fresh image in a buffer of just its length, and in one that is too short
+pub start : (startNumber (replicate 116 7) ≡ 116 * 16777216) × (startBytes (replicate 116 7) ≡ image freshTable) × (startNumber (replicate 115 7) ≡ ROOM)
+unfolding rules
+start = (refl, refl, refl)
+
+-- it is accepted, cut short it isn't, and no entry stands in it
+pub checked : (checkNumber (image freshTable) ≡ ACCEPTED) × (checkNumber [] ≡ SHORT) × (depthCall (image freshTable) 0 0 ≡ 256 * UNREACHED)
+unfolding rules
+checked = (refl, refl, refl)

@@ -6,7 +6,7 @@ use image::put_image;
 use image::read;
 use step::Event;
 use step::Outcome;
-use step::step;
+use step::step_fitting;
 use table::Table;
 ghost use mathlib.Core.Path.{_≡_};
 ghost use Prim.Native.Nat.{_+_, _*_, _≤_};
@@ -38,7 +38,7 @@ pub extern "C" fn etzvanul_step(image: &[u8], event: &[u8], out: &mut [u8]) -> u
         return Outcome::EVENT as u64;
     }
     let t = loaded.table;
-    let o = step(t, Event::of_record(event));
+    let o = step_fitting(t, Event::of_record(event));
     if o.answer != Outcome::ACCEPTED {
         return o.answer as u64;
     }

@@ -13,4 +13,5 @@ pub mod Receive
 pub mod Send
 pub mod Settle
 pub mod Step
+pub mod StepLaws
 pub mod Store

@@ -16,6 +16,7 @@ mod settle;
 mod steps;
 
 pub use steps::step;
+pub use steps::step_fitting;
 
 // As it is written in a record: the kind has two bytes, each operand one.
 pub struct Event {

@@ -1,20 +1,40 @@
 -- `etzvanul::etzvanul_step` meets its contract: each return is one case of the definition, in its order. Assumes nothing.
 use mathlib.Core.Path.{_≡_, sym, ap, _∙_}
+use mathlib.Core.List.{List, [], _∷_}
+use Prim.Native.Nat.{ℕ, suc}
+use native.Mathlib.Omega.{arith}
+use lib.ListN.{getD}
+use mir.Syntax.{w8}
+use mir.Val.{Fits}
 use borrow.Author.Needs.{needs}
 use borrow.Author.Tests.{not-true, not-false}
 use Rattle.image.specs.declared.Loaded.{Loaded}
 use Rattle.step.specs.declared.Event.{Event}
 use Rattle.step.specs.declared.Outcome.{Outcome}
-use Rattle.step.specs.Step.{step}
-use Rattle.table.specs.declared.Table.{Table}
+use Rattle.step.specs.Step.{step, stepFitting}
+use Rattle.step.specs.StepLaws.{fitting}
+use Rattle.terms.specs.Numbers.{ACCEPTED}
+use Rattle.image.specs.BytesLaws.{AreBytes}
+use Rattle.image.specs.Keeps.{in-shape}
+use Rattle.image.specs.Reader.{read}
+use Rattle.image.specs.RoundTrip.{read-good}
 use Rattle.etzvanul.specs.CallLaws.{refusal, image-refused, not-a-record, event-refused, written-not, written}
 use Rattle.etzvanul.specs.HostCall.{refusedCall, called, hostNumber, hostBytes}
 use Rattle.etzvanul.proofs.etzvanul_step.Statement.{statement}
 use Rattle.etzvanul.proofs.etzvanul_step.Tie as tie
 
--- the same table and the same event: the same step
-stepped : {t u : Table} {e f : Event} → t ≡ u → e ≡ f → step t e ≡ step u f
-stepped {t} {u} {e} {f} table event = ap (λ (x : Table). step x e) table ∙ ap (step u) event
+-- a slice of bytes holds bytes
+are-bytes : (l : List ℕ) → ((i : ℕ) → Fits w8 (getD l i 0)) → AreBytes l
+are-bytes [] each = tt
+are-bytes (b ∷ bs) each = (omega (arith, each 0), are-bytes bs (λ i. each (suc i)))
+
+-- what was read has the shape, so the step without its test is the step
+stepped : {l : Loaded} {e f : Event} (old : List ℕ) → AreBytes old → l ≡ read old → read old .answer ≡ ACCEPTED → e ≡ f
+    → stepFitting (l .table) e ≡ step (read old .table) f
+stepped {l} {e} {f} old bytes is accepted event =
+    ap (λ (x : Loaded). stepFitting (x .table) e) is
+    ∙ ap (stepFitting (read old .table)) event
+    ∙ sym (fitting (read old .table) f (in-shape (read old .table) (read-good old bytes accepted .shape)))
 
 read-requires : tie.Need-read-requires
 read-requires c κs = search needs
@@ -48,8 +68,8 @@ returns-2 c =
 of-record-requires : tie.Need-of-record-requires
 of-record-requires c κs = search needs
 
-step-requires : tie.Need-step-requires
-step-requires c κs = search needs
+step-fitting-requires : tie.Need-step-fitting-requires
+step-fitting-requires c κs = search needs
 
 cast-result-3 : tie.Need-cast-result-3
 cast-result-3 c = search needs
@@ -62,9 +82,10 @@ returns-3 c =
     let l = r .before .before .before .before in
     let a = l .before .before .before .before .args in
     let read-is = l .read .ensures in
+    let bytes = are-bytes (a .image .now) (l .before .before .before .shared-slice-known .given) in
     let accepted = sym (ap (λ (x : Loaded). x .answer) read-is) ∙ r .before .before .if1 .left in
     let whole = sym (r .before .is-record .ensures) ∙ not-false _ (r .if2 .left) in
-    let step-is = o .step .ensures ∙ stepped (ap (λ (x : Loaded). x .table) read-is) (o .before .of-record .ensures) in
+    let step-is = o .step-fitting .ensures ∙ stepped (a .image .now) bytes read-is accepted (o .before .of-record .ensures) in
     let is = ap (λ (x : Outcome). x .answer) step-is in
     refusal (called (a .image .now) (a .event .now) (a .out .now)) (a .out .now) _
     (event-refused (a .image .now) (a .event .now) (a .out .now) accepted whole (λ ok. c .before .if3 .taken (is ∙ ok)) ∙ ap refusedCall (sym is))
@@ -86,11 +107,12 @@ returns-4 c =
     let l = r .before .before .before .before in
     let a = l .before .before .before .before .args in
     let read-is = l .read .ensures in
+    let bytes = are-bytes (a .image .now) (l .before .before .before .shared-slice-known .given) in
     let accepted = sym (ap (λ (x : Loaded). x .answer) read-is) ∙ r .before .before .if1 .left in
     let whole = sym (r .before .is-record .ensures) ∙ not-false _ (r .if2 .left) in
-    let step-is = o .step .ensures ∙ stepped (ap (λ (x : Loaded). x .table) read-is) (o .before .of-record .ensures) in
+    let step-is = o .step-fitting .ensures ∙ stepped (a .image .now) bytes read-is accepted (o .before .of-record .ensures) in
     let put = p .put-image .ensures in
-    written-not (a .image .now) (a .event .now) (a .out .now) accepted whole (o .step .result) step-is (p .before .before .before .if3 .left) _ _ (put .0)
+    written-not (a .image .now) (a .event .now) (a .out .now) accepted whole (o .step-fitting .result) step-is (p .before .before .before .if3 .left) _ _ (put .0)
     (put .1 .1 .0)
     (c .before .if4 .taken)
 
@@ -111,11 +133,12 @@ returns-5 c =
     let l = r .before .before .before .before in
     let a = l .before .before .before .before .args in
     let read-is = l .read .ensures in
+    let bytes = are-bytes (a .image .now) (l .before .before .before .shared-slice-known .given) in
     let accepted = sym (ap (λ (x : Loaded). x .answer) read-is) ∙ r .before .before .if1 .left in
     let whole = sym (r .before .is-record .ensures) ∙ not-false _ (r .if2 .left) in
-    let step-is = o .step .ensures ∙ stepped (ap (λ (x : Loaded). x .table) read-is) (o .before .of-record .ensures) in
+    let step-is = o .step-fitting .ensures ∙ stepped (a .image .now) bytes read-is accepted (o .before .of-record .ensures) in
     let put = p .put-image .ensures in
-    let (number, bytes) = written (a .image .now) (a .event .now) (a .out .now) accepted whole (o .step .result) step-is (p .before .before .before .if3 .left)
+    let (number, bytes) = written (a .image .now) (a .event .now) (a .out .now) accepted whole (o .step-fitting .result) step-is (p .before .before .before .if3 .left)
     _ _ (c .before .value .result) _ (put .0) (put .1 .0) (put .1 .1 .0) (c .before .before .if4 .left) (c .before .value .ensures) in
     (c .number-of .ensures ∙ number, bytes)
 
@@ -130,7 +153,7 @@ etzvanul-step-spec =
     cast-result-2
     returns-2
     of-record-requires
-    step-requires
+    step-fitting-requires
     cast-result-3
     returns-3
     put-image-requires
