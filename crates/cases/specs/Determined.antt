@@ -8,6 +8,10 @@ use Prim.Native.Nat.{ℕ}
 use lib.ListN.{length}
 use Rattle.terms.specs.Counted.{holds, list}
 use Rattle.terms.specs.Limits.{OBJECTS}
+use Rattle.entry.specs.declared.Entry.{Entry}
+use Rattle.entry.specs.declared.ReturnCount.{ReturnCount}
+use Rattle.entry.specs.declared.Weight.{Weight}
+use Rattle.lent.specs.Lent.{lent}
 use Rattle.heap.specs.declared.Heap.{Heap}
 use Rattle.heap.specs.declared.Marks.{Marks}
 use Rattle.heap.specs.Heap.{rootsOf}
@@ -20,13 +24,12 @@ use Rattle.step.specs.Step.{step}
 use Rattle.image.specs.declared.Loaded.{Loaded}
 use Rattle.image.specs.declared.Written as image
 use Rattle.image.specs.Reader.{read}
-use Rattle.image.specs.Things.{writeLength}
-use Rattle.image.specs.Writer.{writeAnswer, writeBytes}
+use Rattle.image.specs.Writer.{putAnswer, putLength, putBytes, writeAnswer, writeLength, writeBytes}
 use Rattle.run.specs.declared.Ran.{Ran}
 use Rattle.run.specs.Ran.{ran, runBytes}
 use Rattle.scenario.specs.declared.Written as scenario
 use Rattle.scenario.specs.Records.{bufferOf, writtenOf}
-use Rattle.etzvanul.specs.HostCall.{hostBytes, hostNumber}
+use Rattle.etzvanul.specs.HostCall.{hostBytes, hostNumber, startBytes, startNumber}
 
 -- ---- what is meant
 
@@ -87,19 +90,25 @@ pub read-determined : (bytes : List ℕ) → Determined (λ (r : Loaded). r ≡ 
 read-determined bytes = named (read bytes)
 
 -- the writer's promise tells answer, length and buffer apart
-pub record Writes (t : Table) (out : List ℕ) (l : Left image.Written (List ℕ)) : Type 0 where
-  pub answer : l .back .answer ≡ writeAnswer t out
-  pub length : l .back .length ≡ writeLength t out
-  pub bytes : l .lent ≡ writeBytes t out
+pub record Tells (answer size : ℕ) (bytes : List ℕ) (l : Left image.Written (List ℕ)) : Type 0 where
+  pub number : l .back .answer ≡ answer
+  pub length : l .back .length ≡ size
+  pub buffer : l .lent ≡ bytes
 
--- `write`: answer, length and bytes
-pub write-determined : (t : Table) (out : List ℕ) → Determined (Writes t out)
-write-determined t out r s p q =
-    both-named (record { answer = writeAnswer t out; length = writeLength t out }) (writeBytes t out) r s (whole r p) (whole s q)
+-- and leaves nothing open
+pub told : (answer size : ℕ) (bytes : List ℕ) → Determined (Tells answer size bytes)
+told answer size bytes r s p q = both-named (record { answer = answer; length = size }) bytes r s (whole r p) (whole s q)
   where
-    whole : (l : Left image.Written (List ℕ)) → Writes t out l
-        → (l .back ≡ record { answer = writeAnswer t out; length = writeLength t out }) × (l .lent ≡ writeBytes t out)
-    whole l w = (ap₂ (λ (a n : ℕ). record { answer = a; length = n }) (w .answer) (w .length), w .bytes)
+    whole : (l : Left image.Written (List ℕ)) → Tells answer size bytes l → (l .back ≡ record { answer = answer; length = size }) × (l .lent ≡ bytes)
+    whole l w = (ap₂ (λ (a n : ℕ). record { answer = a; length = n }) (w .number) (w .length), w .buffer)
+
+-- `write`
+pub write-determined : (t : Table) (out : List ℕ) → Determined (Tells (writeAnswer t out) (writeLength t out) (writeBytes t out))
+write-determined t out = told (writeAnswer t out) (writeLength t out) (writeBytes t out)
+
+-- `put_image`
+pub put-determined : (t : Table) (out : List ℕ) → Determined (Tells (putAnswer t out) (putLength t out) (putBytes t out))
+put-determined t out = told (putAnswer t out) (putLength t out) (putBytes t out)
 
 -- ---- whole calls
 
@@ -111,6 +120,15 @@ run-determined input out = both-named (ran input out) (runBytes input out)
 pub host-determined : (old event out : List ℕ)
     → Determined (λ (l : Left ℕ (List ℕ)). (l .back ≡ hostNumber old event out) × (l .lent ≡ hostBytes old event out))
 host-determined old event out = both-named (hostNumber old event out) (hostBytes old event out)
+
+-- the fresh image
+pub start-determined : (out : List ℕ) → Determined (λ (l : Left ℕ (List ℕ)). (l .back ≡ startNumber out) × (l .lent ≡ startBytes out))
+start-determined out = both-named (startNumber out) (startBytes out)
+
+-- a decrement settled on a lent entry: the number, and the entry
+pub settle-determined : (e : Entry) (m : ReturnCount) (n : Weight)
+    → Determined (λ (l : Left ℕ Entry). (l .back ≡ lent e m n .refusal) × (l .lent ≡ lent e m n .entry))
+settle-determined e m n = both-named (lent e m n .refusal) (lent e m n .entry)
 
 -- `write_events`: answer, length and bad line; and the bytes
 pub events-determined : (text out : List ℕ)
