@@ -7,7 +7,9 @@ use crate::measures::{text_width, ARROW_LABEL_SIZE, LINE_STEP};
 /// Between the words and the ends of the arrow's two parts.
 const PADDING: i64 = 2;
 /// Between the words and other things, where there is room for it.
-const CLEARANCE: i64 = 8;
+const CLEARANCE: i64 = 6;
+/// So much more between the words and a lifeline, where an arrow has its head.
+const HEAD_ROOM: i64 = 16;
 
 /// What the words on arrows have to keep clear of.
 pub struct Obstacles<'a> {
@@ -32,7 +34,8 @@ fn best_area(words: &str, index: usize, obstacles: &Obstacles, texts: &[Area]) -
     let cost = |hundredths: i64| {
         let area = area_at(words, &obstacles.arrows[index], hundredths).widened(CLEARANCE);
         let meets_text = texts.iter().filter(|text| area.overlaps(text)).count();
-        let meets_lane = obstacles.lanes.values().filter(|lane| (area.left..=area.right()).contains(*lane)).count();
+        let near_lane = area.left - HEAD_ROOM..=area.right() + HEAD_ROOM;
+        let meets_lane = obstacles.lanes.values().filter(|lane| near_lane.contains(*lane)).count();
         let others = obstacles.arrows.iter().enumerate().filter(|(other, _)| *other != index);
         let meets_arrow = others.filter(|(_, arrow)| area.is_crossed_by(arrow)).count();
         // In this order of weight; the distance from the middle decides between equals.

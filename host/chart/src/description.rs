@@ -5,8 +5,7 @@ use crate::layout::{Layout, Row};
 use field_model::table::Load;
 
 pub fn description(layout: &Layout) -> String {
-    let nodes: Vec<String> = layout.lanes.keys().map(u8::to_string).collect();
-    let mut lines = vec![format!("A message chart. Time runs down. Nodes that take part: {}.", nodes.join(", "))];
+    let mut lines = vec![format!("A message chart of {} events at {} nodes. Time runs down.", layout.rows.len(), layout.lanes.len())];
     let flights: Vec<&Flight> = layout.arrows.iter().map(|arrow| &arrow.flight).collect();
     lines.extend(layout.rows.iter().enumerate().map(|(place, row)| row_words(place, row, &flights)));
     let in_the_air = flights.iter().filter(|flight| flight.arrived.is_none());

@@ -55,8 +55,8 @@ pub fn layout(steps: &[Step], changes: &[Changes]) -> Layout {
     let placed = steps.iter().zip(labels).zip(&row_ys);
     let rows: Vec<Row> = placed.map(|((step, label), y)| place_row(step.node(), label, *y, &lanes, &lines)).collect();
     let words: Vec<String> = flights.iter().map(message_label).collect();
-    let areas =
-        label_areas(&words, &Obstacles { arrows: &lines, lanes: &lanes, texts: rows.iter().flat_map(|row| row.areas.clone()).collect() });
+    let texts = rows.iter().flat_map(|row| row.areas.clone()).collect();
+    let areas = label_areas(&words, &Obstacles { arrows: &lines, lanes: &lanes, texts });
     let placed = flights.into_iter().zip(lines).zip(words).zip(areas);
     let arrows = placed.map(|(((flight, line), label), label_area)| Arrow { flight, line, label, label_area }).collect();
     Layout { lanes, rows, arrows, bottom }
@@ -65,7 +65,7 @@ pub fn layout(steps: &[Step], changes: &[Changes]) -> Layout {
 /// A label beside one lifeline stays clear of the next one, and words on an arrow leave half of it for other arrows to cross.
 fn lane_width(labels: &[Vec<LabelLine>], flights: &[Flight]) -> i64 {
     let beside = labels.iter().flatten().map(|line| line.width() + 2 * BESIDE);
-    let on_arrows = flights.iter().map(|flight| 2 * text_width(&message_label(flight), ARROW_LABEL_SIZE) + 6 * BESIDE);
+    let on_arrows = flights.iter().map(|flight| 2 * text_width(&message_label(flight), ARROW_LABEL_SIZE) + 8 * BESIDE);
     beside.chain(on_arrows).max().unwrap_or(0)
 }
 
@@ -75,7 +75,7 @@ fn lanes(steps: &[Step], width: i64) -> Lanes {
     nodes.into_iter().zip(1..).map(|(node, place)| (node, place * width)).collect()
 }
 
-/// The height of each row, and where the rows end.
+/// How far down each row is, and where the rows end.
 fn row_ys(labels: &[Vec<LabelLine>]) -> (Vec<i64>, i64) {
     let mut end = FIRST_ROW;
     let mut ys = Vec::new();

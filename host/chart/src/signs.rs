@@ -10,10 +10,10 @@ pub const REFUSED_COLOR: &str = "#767676";
 /// The heads of the arrows, to stand before the first of them.
 pub const ARROW_HEADS: &str = concat!(
     "<defs>\n",
-    "<marker id=\"reference\" viewBox=\"0 0 10 10\" refX=\"9\" refY=\"5\" markerUnits=\"userSpaceOnUse\" markerWidth=\"11\" markerHeight=\"11\" ",
-    "orient=\"auto\"><path d=\"M0 0 L10 5 L0 10 z\"/></marker>\n",
-    "<marker id=\"decrement\" viewBox=\"0 0 10 10\" refX=\"9\" refY=\"5\" markerUnits=\"userSpaceOnUse\" markerWidth=\"11\" markerHeight=\"11\" ",
-    "orient=\"auto\"><path d=\"M0 0 L10 5 L0 10 z\" fill=\"#1f4e8c\"/></marker>\n",
+    "<marker id=\"reference\" refX=\"10\" refY=\"5\" markerUnits=\"userSpaceOnUse\" markerWidth=\"11\" markerHeight=\"10\" orient=\"auto\">",
+    "<path d=\"M0 0 L11 5 L0 10 z\"/></marker>\n",
+    "<marker id=\"decrement\" refX=\"10\" refY=\"5\" markerUnits=\"userSpaceOnUse\" markerWidth=\"11\" markerHeight=\"10\" orient=\"auto\">",
+    "<path d=\"M0 0 L11 5 L0 10 z\" fill=\"#1f4e8c\"/></marker>\n",
     "</defs>"
 );
 
