@@ -1,9 +1,9 @@
 //! One comparison: the model and the archive on the same input, every byte of both buffers looked at. A difference ends the program.
 
-use crate::archive;
 use crate::hex::hex;
 use field_model::host;
 use std::hint::black_box;
+use verified_archive as archive;
 
 /// Bytes on either side of the lent buffer, which nobody may write.
 const GUARD: usize = 16;
