@@ -1,6 +1,5 @@
 //! One comparison: the model and the archive on the same input, every byte of both buffers looked at. A difference ends the program.
 
-use crate::archive;
 use crate::hex::hex;
 use field_model::host;
 use std::hint::black_box;

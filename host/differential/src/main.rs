@@ -5,10 +5,8 @@
 //! The same seed gives the same inputs. SCALE multiplies their number. The first difference is printed with its input in hex, and the exit
 //! status is 1. It is 1 as well if some answer or some kind of accepted event was never met: then the inputs have become too tame.
 
-#![deny(unsafe_code)]
+#![forbid(unsafe_code)]
 
-#[allow(unsafe_code)]
-mod archive;
 mod choose;
 mod compare;
 mod damage;
