@@ -5,7 +5,6 @@ use field_model::host::{event_of_record, EVENT_BYTES};
 use field_model::limits::NODES;
 use field_model::reader::read;
 use field_model::table::Table;
-use verified_archive as archive;
 
 /// The room that every image fits in.
 const LARGEST_IMAGE: usize = 11_508;

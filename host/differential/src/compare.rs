@@ -3,7 +3,6 @@
 use crate::hex::hex;
 use field_model::host;
 use std::hint::black_box;
-use verified_archive as archive;
 
 /// Bytes on either side of the lent buffer, which nobody may write.
 const GUARD: usize = 16;
