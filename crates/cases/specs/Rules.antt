@@ -17,7 +17,7 @@ use Rattle.step.specs.New.{new}
 use Rattle.step.specs.Receive.{receiveOf}
 use Rattle.step.specs.Send.{send}
 use Rattle.step.specs.Settle.{settleOf}
-use Rattle.step.specs.Step.{ruleFor, step, stepFitting}
+use Rattle.step.specs.Step.{ruleFor, step}
 use Rattle.step.specs.Store.{store}
 use Rattle.image.specs.Content.{fitsRecord, withRecord}
 use Rattle.image.specs.Reader.{recordOf, readFrom, read}
@@ -31,5 +31,5 @@ use Rattle.etzvanul.specs.HostCall.{callWith, callOn, callAfter, called, hostNu
 
 -- its value is of no use; what its line names is what a case opens
 unfoldable pub rules : Type 1
-unfolding everyFrom lowestFrom sumFrom listFrom gatherFrom holds all directorySent directoryCameHome directorySettled remoteSent remoteSentHome remoteReceivedAgain remoteSettled holderSent sent received settled mayGo fitsDirectory fitsRemote fitsEntry fitsObject fitsRoots fitsHeap mark heldBy pointed rounds reached depthBy depthReport fitsCell fitsMessage fitsTable clear counted collectTorn heapCollected cellCollected collectHolding collectKeeping dropOf kindOf fitsEvent load move new receiveOf send settleOf ruleFor step stepFitting store fitsRecord withRecord recordOf readFrom read kindOfCode recordsOf bytesOfAll image putAnswer putLength putBytes writeAnswer writeLength writeBytes next ran runBytes summary line lastLine runFrom runText endFrom runEnd decimal callWith callOn callAfter called hostNumber hostBytes startCall startNumber startBytes checkNumber depthCall
+unfolding everyFrom lowestFrom sumFrom listFrom gatherFrom holds all directorySent directoryCameHome directorySettled remoteSent remoteSentHome remoteReceivedAgain remoteSettled holderSent sent received settled mayGo fitsDirectory fitsRemote fitsEntry fitsObject fitsRoots fitsHeap mark heldBy pointed rounds reached depthBy depthReport fitsCell fitsMessage fitsTable clear counted collectTorn heapCollected cellCollected collectHolding collectKeeping dropOf kindOf fitsEvent load move new receiveOf send settleOf ruleFor step store fitsRecord withRecord recordOf readFrom read kindOfCode recordsOf bytesOfAll image putAnswer putLength putBytes writeAnswer writeLength writeBytes next ran runBytes summary line lastLine runFrom runText endFrom runEnd decimal callWith callOn callAfter called hostNumber hostBytes startCall startNumber startBytes checkNumber depthCall
 rules = Type 0

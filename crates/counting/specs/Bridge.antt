@@ -29,7 +29,7 @@ module _ (R : Rules) (c : Share R) (lawful : Lawful R c) (shaped : Shaped R c) w
         ]
 
     -- no entry hangs anywhere
-    hangs-nowhere : (p : ℕ) → p < R .nodes → Hangs R c p → ⊥
+    pub hangs-nowhere : (p : ℕ) → p < R .nodes → Hangs R c p → ⊥
     hangs-nowhere p lp = nobody-hangs (suc (lawful .rank p)) p lp (omega arith)
 
     -- so no node counts anything
@@ -40,13 +40,13 @@ module _ (R : Rules) (c : Share R) (lawful : Lawful R c) (shaped : Shaped R c) w
     ]
 
     -- and nothing in the air counts
-    air-nothing : (s p : ℕ) → s < R .places → p < R .nodes → R .air p (c .message s) ≡ 0
+    pub air-nothing : (s p : ℕ) → s < R .places → p < R .nodes → R .air p (c .message s) ≡ 0
     air-nothing s p ls lp = omega (arith, air-counted R c lawful s p ls lp, counts-nothing p lp)
 
   -- where nothing hangs and nothing in the air counts, all return counts are the directory's
   module _ (no-entry : (p : ℕ) → p < R .nodes → Hangs R c p → ⊥)
       (no-air : (s p : ℕ) → s < R .places → p < R .nodes → R .air p (c .message s) ≡ 0) where
-    directory-only : returned R c ≡ R .returns (c .entry (R .owner))
+    pub directory-only : returned R c ≡ R .returns (c .entry (R .owner))
     directory-only =
         ap₂ (R .numbers .plus)
         (total-only (R .numbers) (R .nodes) (λ p. R .returns (c .entry p)) (R .owner) (shaped .owner-number)

@@ -4,7 +4,7 @@ use mathlib.Core.Path.{_≡_, refl, sym}
 use mathlib.Core.Bool.{Bool, true, false}
 use Prim.Native.Nat.{ℕ, suc, _+_, _-_, _*_, _^_, _≤_, _<_}
 use native.Mathlib.Omega.{arith}
-use lib.Dec.{ltb, leb, eqb}
+use lib.Dec.{ltb, eqb}
 use lib.IntN.{ℤ, pos, negsuc, _+ℤ_, natAbs, subℕ}
 use lib.Signed.{mag, ltZ, leZ}
 use mir.Syntax.{w32}
@@ -85,7 +85,8 @@ mag-sum (negsuc a) (negsuc b) p q = omega arith
 sum-fits : (a b : ℤ) → withinMost a ≡ true → withinMost b ≡ true → SFits w32 (a +ℤ b)
 sum-fits a b p q = record { sfits = omega (arith, mag-sum a b (leb-true _ _ p) (leb-true _ _ q)) }
 
-module _ (c m : ReturnCount) (c-told : SFits w32 (c .0)) (m-told : SFits w32 (m .0)) (c-fits : fitsDirectoryReturns c ≡ true) (m-fits : fitsDirectoryReturns m ≡ true) where
+module _ (c m : ReturnCount) (c-told : SFits w32 (c .0)) (m-told : SFits w32 (m .0))
+    (c-fits : fitsDirectoryReturns c ≡ true) (m-fits : fitsDirectoryReturns m ≡ true) where
   pub both-fits : SFits w32 (kept (c .0) +ℤ kept (m .0))
   both-fits = simp (toZ-ofZ c-told, toZ-ofZ m-told) (sum-fits (c .0) (m .0) c-fits m-fits)
 

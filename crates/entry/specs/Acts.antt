@@ -4,7 +4,7 @@ use mathlib.Core.Bool.{Bool, true, false, not}
 use Prim.Native.Nat.{ℕ, _+_, _-_}
 use lib.Dec.{leb, ltb, eqb}
 use Rattle.terms.specs.Choose.{if_then_else_, _and_}
-use Rattle.terms.specs.Limits.{MOST, owner}
+use Rattle.terms.specs.Limits.{MOST}
 use Rattle.terms.specs.Numbers.{ACCEPTED, TORN}
 use Rattle.entry.specs.declared.ReturnCount.{ReturnCount}
 use Rattle.entry.specs.declared.Weight.{Weight}

@@ -1,6 +1,6 @@
 -- The acts on whatever stands for an object at a node: a directory, a remote entry, or nothing (document 01, SEND, RECEIVE, SETTLE, DROP and
 -- COLLECT). This is all that the events know of entries. Definitions only; assumes nothing.
-use mathlib.Core.Bool.{Bool, true, false, not}
+use mathlib.Core.Bool.{Bool, false, not}
 use Prim.Native.Nat.{ℕ}
 use lib.Dec.{eqb}
 use Rattle.terms.specs.Choose.{if_then_else_}
@@ -14,7 +14,8 @@ use Rattle.entry.specs.declared.Entry.the-variants.{Absent, AtOwner, Els
 use Rattle.entry.specs.declared.DirectoryAct.{DirectoryAct}
 use Rattle.entry.specs.declared.RemoteAct.{RemoteAct}
 use Rattle.entry.specs.declared.EntryAct.{EntryAct}
-use Rattle.entry.specs.Acts.{firstSent, directorySent, directoryCameHome, directorySettled, directoryMayGo, firstReceived, remoteSent, remoteSentHome, remoteReceivedAgain, remoteSettled, remoteSetUnused, remoteMayGo}
+use Rattle.entry.specs.Acts.{firstSent, directorySent, directoryCameHome, directorySettled, directoryMayGo}
+use Rattle.entry.specs.Acts.{firstReceived, remoteSent, remoteSentHome, remoteReceivedAgain, remoteSettled, remoteSetUnused, remoteMayGo}
 
 abbrev pub done : Entry → EntryAct
 done e = record { refusal = ACCEPTED; entry = e }

@@ -6,7 +6,6 @@ use lib.Dec.{eqb}
 use Rattle.entry.specs.declared.ReturnCount.{ReturnCount}
 use Rattle.entry.specs.declared.Weight.{Weight}
 use Rattle.entry.specs.declared.Directory.{Directory}
-use Rattle.entry.specs.declared.Remote.{Remote}
 use Rattle.entry.specs.declared.Entry.{Entry}
 use Rattle.entry.specs.declared.Entry.the-variants.{Absent, AtOwner, Elsewhere}
 use Rattle.terms.specs.Choose.{_and_}

@@ -10,7 +10,7 @@ use crate::Weight;
 ghost use mathlib.Core.Path.{_≡_};
 ghost use lib.Dec.{eqb};
 ghost use Rattle.terms.specs.Limits.{owner};
-ghost use Rattle.entry.specs.Entry.{isAbsent, isRemote, isPresent, isClear};
+ghost use Rattle.entry.specs.Entry.{isAbsent, isPresent, isClear};
 ghost use Rattle.entry.specs.Fits.{fitsEntry};
 ghost use Rattle.entry.specs.AtNode.{done, torn, refuses, ofDirectory, ofRemote, holderSent, sent, received, settled, setUnused, mayGo};
 
@@ -181,16 +181,6 @@ impl Entry {
             Entry::Absent => true,
             Entry::AtOwner(_) => false,
             Entry::Elsewhere(_) => false,
-        }
-    }
-
-    pub fn is_remote(self) -> bool
-        ensures { λ r. ⌜ r ≡ isRemote self ⌝ }
-    {
-        match self {
-            Entry::Absent => false,
-            Entry::AtOwner(_) => false,
-            Entry::Elsewhere(_) => true,
         }
     }
 

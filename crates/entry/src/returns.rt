@@ -2,7 +2,7 @@
 use crate::ReturnCount;
 use crate::Weight;
 ghost use mathlib.Core.Path.{_≡_};
-ghost use mathlib.Core.Bool.{Bool, true, false};
+ghost use mathlib.Core.Bool.{true, false};
 ghost use Rattle.entry.specs.Entry.{isNone, both};
 ghost use Rattle.entry.specs.Fits.{fitsReturns, fitsDirectoryReturns, fitsWeight};
 ghost use Rattle.entry.specs.Acts.{stays};

@@ -10,9 +10,11 @@ use native.Mathlib.Omega.{arith}
 use lib.ListN.{length, getD, set, replicate, length-set}
 use lib.Seq.{ext-getD}
 use Rattle.terms.specs.Choose.{if_then_else_, _and_}
+use Rattle.terms.specs.ChooseLaws.{and-passes}
 use Rattle.terms.specs.Counted.{holds, howMany, list, listFrom, gatherFrom}
-use Rattle.terms.specs.CountedLaws.{Some, and-passes, listFrom-first, gatherFrom-first, howMany-le, howMany-lt, howMany-none, length-list, getD-list, holds-first, holds-gather, holds-list}
+use Rattle.terms.specs.CountedLaws.{Some, listFrom-first, gatherFrom-first, howMany-le, howMany-lt, howMany-none}
 use Rattle.terms.specs.Limits.{OBJECTS, FIELDS}
+use Rattle.terms.specs.ListLaws.{length-list, getD-list, holds-first, holds-gather, holds-list}
 use Rattle.heap.specs.declared.Heap.{Heap}
 use Rattle.heap.specs.Heap.{fieldAt, fieldsOf}
 use Rattle.heap.specs.Walk.{Scope, everywhere, Within, Reached, started, through, Marks, unmarked, isMarked, mark, heldBy, rounds, reached}
@@ -100,7 +102,10 @@ unfolding mark holds
 mark-adds scope m [] o a = absurd (false≢true (a .listed))
 mark-adds scope m (x ∷ xs) o a =
     let len = marking-length scope m x in
-    ⊎-elim (λ q. mark-grows scope (marking scope m x) xs o (marking-is scope m x o .1 (inr (record { place = a .place; inside = a .inside; same = q }))))
+    ⊎-elim
+    (λ q.
+    let named : Named scope m x o = record { place = a .place; inside = a .inside; same = q } in
+    mark-grows scope (marking scope m x) xs o (marking-is scope m x o .1 (inr named)))
     (λ l. mark-adds scope (marking scope m x) xs o (record { place = omega arith; inside = a .inside; listed = l }))
     (holds-first x xs o .0 (a .listed))
 
@@ -111,7 +116,10 @@ mark-only scope m [] o on = inl on
 mark-only scope m (x ∷ xs) o on =
     let len = marking-length scope m x in
     let listed = holds-first x xs o .1 in
-    ⊎-elim (λ was. ⊎-elim inl (λ n. inr (record { place = n .place; inside = n .inside; listed = listed (inl (n .same)) })) (marking-is scope m x o .0 was))
+    ⊎-elim
+    (λ was. ⊎-elim inl
+    (λ n. inr (record { place = n .place; inside = n .inside; listed = listed (inl (n .same)) }))
+    (marking-is scope m x o .0 was))
     (λ a. inr (record { place = omega arith; inside = a .inside; listed = listed (inr (a .listed)) }))
     (mark-only scope (marking scope m x) xs o on)
 
@@ -219,7 +227,8 @@ module _ (scope : Scope) (m n : Marks) (grows : (o : ℕ) → isMarked m o ≡ t
   left-lt o w on l = howMany-lt OBJECTS (isLeft scope n) (isLeft scope m) left-before o (w .number) (rw (w .inside, on)) l
 
 -- to mark an object of the scope leaves fewer
-pub left-set : (scope : Scope) (m : Marks) (o : ℕ) → length m ≡ OBJECTS → Within scope o → isMarked m o ≡ false → left scope (set m o true) < left scope m
+pub left-set : (scope : Scope) (m : Marks) (o : ℕ) → length m ≡ OBJECTS → Within scope o → isMarked m o ≡ false
+    → left scope (set m o true) < left scope m
 left-set scope m o len w off =
     let on = set-is m o o .1 (inr (omega (arith, w .number), refl)) in
     left-lt scope m (set m o true) (λ x was. set-is m o x .1 (inl was)) o w on (rw (w .inside, off))
@@ -371,10 +380,6 @@ module _ (h : Heap) (scope : Scope) (starts : List ℕ) where
   -- an object is marked exactly where it is reached
   pub reached-is : (o : ℕ) → (isMarked (reached h scope starts) o ≡ true) ↔ Reached h scope starts o
   reached-is = walked-is reached-walked
-
-  -- all that is marked stands in the scope
-  pub marked-within : (o : ℕ) → isMarked (reached h scope starts) o ≡ true → Within scope o
-  marked-within o on = reached-within (reached-is o .0 on)
 
   -- a walk that has ended, in whatever order, has these marks and no others
   pub walked-only : {m : Marks} → Walked h scope starts m → m ≡ reached h scope starts

@@ -3,14 +3,13 @@
 use mathlib.Core.Path.{_≡_, refl, sym, _∙_}
 use mathlib.Core.Bool.{true, false, false≢true}
 use mathlib.Core.List.{List, [], _∷_, _++_}
-use mathlib.Core.Logic.{_↔_, _⊎_, inl, inr, ⊎-elim}
+use mathlib.Core.Logic.{_⊎_, inl, inr, ⊎-elim}
 use Prim.Native.Nat.{ℕ, _<_}
 use native.Mathlib.Omega.{arith}
 use lib.ListN.{length, set}
-use Rattle.terms.specs.Choose.{_or_}
 use Rattle.terms.specs.Counted.{holds}
-use Rattle.terms.specs.CountedLaws.{or-passes, holds-first, holds-append}
 use Rattle.terms.specs.Limits.{OBJECTS, FIELDS}
+use Rattle.terms.specs.ListLaws.{holds-either, holds-first}
 use Rattle.heap.specs.declared.Heap.{Heap}
 use Rattle.heap.specs.Heap.{fieldAt, fieldsOf}
 use Rattle.heap.specs.Walk.{Scope, Within, Reached, started, through, Marks, unmarked, isMarked}
@@ -63,19 +62,22 @@ module _ {h : Heap} {scope : Scope} where
   visited-then {xs} {ys} {m} {n} {r} one next = record {
     size = next .size;
     grows = λ o on. next .grows o (one .grows o on);
-    begun = λ o l w. ⊎-elim (λ x. next .grows o (one .begun o x w)) (λ y. next .begun o y w) (either o .0 (sym (holds-append xs ys o) ∙ l));
-    closed = λ x on. ⊎-elim (λ was. ⊎-elim inl (λ shut. inr (λ f o lt e w. next .grows o (shut f o lt e w))) (one .closed x was)) inr (next .closed x on);
-    sound = λ o on. ⊎-elim (λ was. ⊎-elim inl (λ q. inr (reached-from from-xs q)) (one .sound o was)) (λ q. inr (reached-from from-ys q)) (next .sound o on);
+    begun = λ o l w. ⊎-elim (λ x. next .grows o (one .begun o x w)) (λ y. next .begun o y w) (holds-either xs ys o .0 l);
+    closed = λ x on. ⊎-elim
+        (λ was. ⊎-elim inl (λ shut. inr (λ f o lt e w. next .grows o (shut f o lt e w))) (one .closed x was))
+        inr
+        (next .closed x on);
+    sound = λ o on. ⊎-elim
+        (λ was. ⊎-elim inl (λ q. inr (reached-from from-xs q)) (one .sound o was))
+        (λ q. inr (reached-from from-ys q))
+        (next .sound o on);
   }
     where
-      either : (o : ℕ) → ((holds xs o or holds ys o) ≡ true) ↔ ((holds xs o ≡ true) ⊎ (holds ys o ≡ true))
-      either o = or-passes (holds xs o) (holds ys o)
-
       from-xs : (x : ℕ) → Within scope x → holds xs x ≡ true → Reached h scope (xs ++ ys) x
-      from-xs x w l = started w (holds-append xs ys x ∙ either x .1 (inl l))
+      from-xs x w l = started w (holds-either xs ys x .1 (inl l))
 
       from-ys : (x : ℕ) → Within scope x → holds ys x ≡ true → Reached h scope (xs ++ ys) x
-      from-ys x w l = started w (holds-append xs ys x ∙ either x .1 (inr l))
+      from-ys x w l = started w (holds-either xs ys x .1 (inr l))
 
   -- an object is marked, and its fields follow
   pub visited-enter : {o : ℕ} {m r : Marks} → Within scope o → length m ≡ OBJECTS
@@ -85,7 +87,10 @@ module _ {h : Heap} {scope : Scope} where
     grows = λ x on. rest .grows x (set-is m o x .1 (inl on));
     begun = λ x l w. rw (only-name o x l) at marked;
     closed = λ x on. ⊎-elim (λ was. ⊎-elim inl (λ p. inr (rw (p .1) at shut)) (set-is m o x .0 was)) inr (rest .closed x on);
-    sound = λ x on. ⊎-elim (λ was. ⊎-elim inl (λ p. inr (rw (← p .1) begin)) (set-is m o x .0 was)) (λ q. inr (reached-from from-fields q)) (rest .sound x on);
+    sound = λ x on. ⊎-elim
+        (λ was. ⊎-elim inl (λ p. inr (rw (← p .1) begin)) (set-is m o x .0 was))
+        (λ q. inr (reached-from from-fields q))
+        (rest .sound x on);
   }
     where
       marked : isMarked r o ≡ true

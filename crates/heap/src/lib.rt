@@ -2,10 +2,11 @@
 mod walk; // walk.rt: what is reached, and what is held
 
 ghost use mathlib.Core.Path.{_≡_};
-ghost use lib.ListN.{getD, set};
+ghost use lib.ListN.{getD, length, set};
 ghost use Rattle.terms.specs.Counted.{every};
 ghost use Rattle.terms.specs.Limits.{NODES, OBJECTS};
-ghost use Rattle.heap.specs.Heap.{idle, born, freshHeap, objectAt, isLive, fieldAt, rootsAt, rootAt, withObject, withField, withRoot, freeOwn, fitsName, fitsField, fitsObject, fitsRoots, fitsHeap};
+ghost use Rattle.heap.specs.Heap.{idle, born, freshHeap, objectAt, isLive, fieldAt, rootsAt, rootAt, withObject, withField, withRoot, freeOwn};
+ghost use Rattle.heap.specs.Heap.{fitsName, fitsField, fitsObject, fitsRoots, fitsHeap};
 
 pub struct Object {
     pub live: bool,
@@ -220,6 +221,21 @@ fn fits_field(live: bool, x: u8) -> bool
     x == Heap::NONE
 }
 
+// All fields of an object; a node's roots are as those of a live one.
+fn all_fit(live: bool, names: &[u8]) -> bool
+    ensures { λ r. ⌜ r ≡ every (length (now (names .entry))) (λ k. fitsField live (getD (now (names .entry)) k 0)) ⌝ }
+{
+    let mut i: usize = 0;
+    while i < names.len() {
+        let x = names[i];
+        if !fits_field(live, x) {
+            return false;
+        }
+        i += 1;
+    }
+    true
+}
+
 impl Object {
     // Not live, its fields empty.
     fn idle() -> Object
@@ -267,16 +283,8 @@ impl Object {
     pub fn fits(self) -> bool
         ensures { λ r. ⌜ r ≡ fitsObject self ⌝ }
     {
-        let mut f: u8 = 0;
-        while f < Heap::FIELDS {
-            let i = f as usize;
-            let x = self.fields[i];
-            if !fits_field(self.live, x) {
-                return false;
-            }
-            f += 1;
-        }
-        true
+        let live = self.live;
+        all_fit(live, &self.fields)
     }
 }
 
@@ -305,15 +313,6 @@ impl Roots {
     pub fn fits(self) -> bool
         ensures { λ r. ⌜ r ≡ fitsRoots self ⌝ }
     {
-        let mut r: u8 = 0;
-        while r < Heap::ROOTS {
-            let i = r as usize;
-            let x = self.at[i];
-            if !fits_name(x) {
-                return false;
-            }
-            r += 1;
-        }
-        true
+        all_fit(true, &self.at)
     }
 }

@@ -1,7 +1,10 @@
 pub mod Bits
+pub mod Checking
 pub mod Fronting
 pub mod InOrder
 pub mod Layers
 pub mod Places
 pub mod Reading
+pub mod Scanning
 pub mod Signs
+pub mod Telling

@@ -11,7 +11,7 @@ use lib.Dec.{ltb}
 use lib.ListN.{length, take, drop, set, length-drop}
 use lib.Seq.{drop-drop, take-all}
 use Rattle.terms.specs.Choose.{_and_}
-use Rattle.terms.specs.CountedLaws.{and-passes}
+use Rattle.terms.specs.ChooseLaws.{and-passes}
 use Rattle.terms.specs.Limits.{NODES, OBJECTS, PLACES}
 use Rattle.terms.specs.Numbers.{ACCEPTED}
 use Rattle.heap.specs.declared.Heap.{Heap}
@@ -27,11 +27,11 @@ use Rattle.image.specs.declared.RecordKind.{RecordKind}
 use Rattle.image.specs.declared.RecordKind.the-variants.{Count, Live, NodeRoots, Directory, Remote, Reference, Decrement, End}
 use Rattle.image.specs.declared.Turn.{Turn}
 use Rattle.image.specs.Content.{number, liveObject, rootsOfNode, referenceMessage, decrementMessage, fitsRecord, withRecord}
-use Rattle.image.specs.Front.{keyOf, cellWithDirectory, cellWithRemote}
+use Rattle.image.specs.Front.{keyOf, frontOf, cellWithDirectory, cellWithRemote}
 use Rattle.image.specs.Order.{firstTurn, turnAfter}
 use Rattle.image.specs.Reader.{Taken, payload, recordOf, takeRecord, refusedRead, thenRead, readFrom, read}
 use Rattle.image.specs.Records.{HEAD, isEnd, lengthOf}
-use Rattle.image.proofs.Fronting.{Good, Bad}
+use Rattle.image.proofs.Fronting.{Good, Bad, front-within}
 
 -- the table with this in a place
 abbrev pub withPlace : Table → ℕ → Place → Table
@@ -48,6 +48,14 @@ unroll (suc n) now t l le = rw sub-one
 -- the rest as the code lends it
 pub rest-is : (s : List ℕ) (at : ℕ) → take (length s - at) (drop at s) ≡ drop at s
 rest-is s at = take-all (length s - at) (drop at s) (omega (arith, length-drop at s))
+
+-- what the code finds there is the record at the front of what is left
+pub found : (s : List ℕ) (at : ℕ) (turn : Turn) (f : Front) → f ≡ frontOf turn (take (length s - at) (drop at s)) → f ≡ frontOf turn (drop at s)
+found s at turn f e = e ∙ ap (frontOf turn) (rest-is s at)
+
+-- and does not pass the end of the bytes
+pub inside : (s : List ℕ) (at : ℕ) (turn : Turn) (f : Front) → at ≤ length s → f ≡ frontOf turn (drop at s) → at + f .length ≤ length s
+inside s at turn f le is = omega (arith, front-within turn (drop at s) f is, length-drop at s)
 
 -- the table with this heap is what is read before `at`
 pub record Reading (s : List ℕ) (table : Table) (heap : Heap) (turn : Turn) (at : ℕ) : Type 0 where
@@ -115,7 +123,7 @@ module _ {s : List ℕ} {table : Table} {heap : Heap} {turn : Turn} {at : ℕ} (
 
     module _ (go-on : isEnd k ≡ false) (table′ : Table) (heap′ : Heap)
         (is : withHeap table′ heap′ ≡ withRecord (withHeap table heap) k (payload k (drop at s))) where
-      onward : Reading s table′ heap′ (f .next) (at + f .length)
+      pub onward : Reading s table′ heap′ (f .next) (at + f .length)
       onward =
           let ns = payload k (drop at s) in
           record {

@@ -11,9 +11,11 @@ use lib.IntN.{ℤ, pos, negsuc}
 use lib.ListN.{length, getD, replicate}
 use borrow.Author.Tests.{ltb-true, leb-true, eqb-true, lt-ltb, le-leb}
 use Rattle.terms.specs.Bytes.{signed, twosComplement}
+use Rattle.terms.specs.ChooseLaws.{and-passes, or-passes}
 use Rattle.terms.specs.Counted.{every, listFrom, list, one}
-use Rattle.terms.specs.CountedLaws.{and-passes, or-passes, every-at, list-is}
+use Rattle.terms.specs.CountedLaws.{every-at}
 use Rattle.terms.specs.Limits.{NODES, OBJECTS, PLACES, FIELDS, ROOTS, NONE, MOST, owner}
+use Rattle.terms.specs.ListLaws.{list-is}
 use Rattle.entry.specs.declared.Directory.{Directory}
 use Rattle.entry.specs.declared.Remote.{Remote}
 use Rattle.entry.specs.declared.ReturnCount.{ReturnCount}

@@ -9,8 +9,9 @@ use lib.Dec.{ltb}
 use lib.ListN.{length, getD, set, take, drop, replicate, length-set, length-drop, length-replicate, getD-replicate}
 use lib.Seq.{getD-set-same, getD-set-other, length-take-le}
 use borrow.Author.Tests.{ltb-true}
+use Rattle.terms.specs.ChooseLaws.{and-passes}
 use Rattle.terms.specs.Counted.{everyFrom, every}
-use Rattle.terms.specs.CountedLaws.{and-passes, every-all}
+use Rattle.terms.specs.CountedLaws.{every-all}
 use Rattle.terms.specs.Limits.{NODES, OBJECTS, PLACES, FIELDS, ROOTS, NONE, owner}
 use Rattle.entry.specs.declared.Entry.{Entry}
 use Rattle.entry.specs.declared.Entry.the-variants.{Absent}

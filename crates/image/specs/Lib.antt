@@ -1,12 +1,16 @@
 pub mod BytesLaws
 pub mod CellLaws
+pub mod Check
+pub mod CheckLaws
 pub mod Content
 pub mod ContentLaws
+pub mod Find
 pub mod Front
 pub mod Keeps
 pub mod Order
 pub mod ReadLaws
 pub mod Reader
+pub mod RecordBytes
 pub mod Records
 pub mod RoundTrip
 pub mod SectionsRead

@@ -24,11 +24,11 @@ use Rattle.image.specs.Records.{Record, row, HEAD, codeOf, kindOfCode, i
 use Rattle.image.specs.Writer.{bytesOfAll}
 
 -- the bytes of a record, and what stands behind it
-abbrev front : RecordKind → List ℕ → List ℕ → List ℕ
+abbrev pub front : RecordKind → List ℕ → List ℕ → List ℕ
 front k ns rest = recordBytes (row k ns) ++ rest
 
 -- its head says its length
-stated-length : (k : RecordKind) (ns rest : List ℕ) → statedLength (front k ns rest) ≡ lengthOf k
+pub stated-length : (k : RecordKind) (ns rest : List ℕ) → statedLength (front k ns rest) ≡ lengthOf k
 stated-length Count ns rest = refl
 stated-length Live ns rest = refl
 stated-length NodeRoots ns rest = refl
@@ -40,7 +40,7 @@ stated-length End ns rest = refl
 stated-length Unknown ns rest = refl
 
 -- and its kind
-stated-kind : (k : RecordKind) (ns rest : List ℕ) → statedKind (front k ns rest) ≡ k
+pub stated-kind : (k : RecordKind) (ns rest : List ℕ) → statedKind (front k ns rest) ≡ k
 unfolding kindOfCode
 stated-kind Count ns rest = refl
 stated-kind Live ns rest = refl
@@ -54,16 +54,16 @@ stated-kind Unknown ns rest = refl
 
 module _ (k : RecordKind) (ns rest : List ℕ) (fit : Fit (widthsOf k) ns) where
   -- the numbers come back
-  front-payload : payload k (front k ns rest) ≡ ns
+  pub front-payload : payload k (front k ns rest) ≡ ns
   front-payload = unpacked-packed (widthsOf k) ns rest fit
 
   -- and so does what stands behind them
-  front-rest : restAfter k (front k ns rest) ≡ rest
+  pub front-rest : restAfter k (front k ns rest) ≡ rest
   front-rest =
       sym (drop-drop (lengthOf k) HEAD (front k ns rest)) ∙ drop-at (packed (widthsOf k) ns) rest (lengthOf k) (length-packed (widthsOf k) ns fit)
 
   -- it is as long as its head and its payload
-  front-length : length (front k ns rest) ≡ HEAD + lengthOf k + length rest
+  pub front-length : length (front k ns rest) ≡ HEAD + lengthOf k + length rest
   front-length =
       ap (λ n. suc (suc (suc (suc n)))) (length-append (packed (widthsOf k) ns) rest)
       ∙ rw (length-packed (widthsOf k) ns fit) (omega arith)

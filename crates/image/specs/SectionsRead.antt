@@ -12,8 +12,8 @@ use lib.Seq.{ext-getD}
 use borrow.Author.Tests.{lt-ltb, le-ltb, eq-eqb, ne-eqb}
 use Rattle.terms.specs.Choose.{if_then_else_, _and_, _or_}
 use Rattle.terms.specs.Counted.{gather}
-use Rattle.terms.specs.CountedLaws.{filled-none, filled-set, filled-keep}
 use Rattle.terms.specs.Limits.{NODES, OBJECTS, PLACES, ROOTS, NONE, owner}
+use Rattle.terms.specs.ListLaws.{filled-none, filled-set, filled-keep}
 use Rattle.entry.specs.declared.Entry.{Entry}
 use Rattle.entry.specs.declared.Entry.the-variants.{Absent, AtOwner, Elsewhere}
 use Rattle.entry.specs.Fits.{fitsEntry}

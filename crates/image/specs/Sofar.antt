@@ -6,8 +6,8 @@ use Prim.Native.Nat.{ℕ, _+_, _*_}
 use lib.Dec.{ltb, eqb}
 use lib.ListN.{getD}
 use Rattle.terms.specs.Choose.{_and_, _or_}
-use Rattle.terms.specs.CountedLaws.{Filled}
 use Rattle.terms.specs.Limits.{owner}
+use Rattle.terms.specs.ListLaws.{Filled}
 use Rattle.entry.specs.declared.Entry.the-variants.{Absent}
 use Rattle.heap.specs.declared.Object.{Object}
 use Rattle.heap.specs.declared.Roots.{Roots}

@@ -12,8 +12,8 @@ use lib.Seq.{getD-set-same, getD-set-other}
 use borrow.Author.Tests.{ltb-true, leb-true, eq-eqb}
 use Rattle.terms.specs.Bytes.{twosComplement, signed}
 use Rattle.terms.specs.Choose.{_and_}
+use Rattle.terms.specs.ChooseLaws.{and-passes}
 use Rattle.terms.specs.Counted.{listFrom, list, one}
-use Rattle.terms.specs.CountedLaws.{and-passes}
 use Rattle.terms.specs.Limits.{NODES, OBJECTS, PLACES, owner}
 use Rattle.entry.specs.declared.Entry.{Entry}
 use Rattle.entry.specs.declared.Entry.the-variants.{Absent, AtOwner, Elsewhere}
@@ -140,7 +140,7 @@ module _ (t : Table) (formed : Formed t) (p o : ℕ) (e : Entry) (lo : o < OBJEC
       (ap (λ (s : Slot). s .held) (getD-set-same (cellAt t o .at) p (record { held = e }) (record { held = Absent }) (omega (arith, formed .entries o lo))))
 
 -- no remote entry stands at the owner
-remote-none : (p o : ℕ) (e : Entry) → p ≡ owner o → fitsEntry p o e ≡ true → remoteRecord p o e ≡ []
+pub remote-none : (p o : ℕ) (e : Entry) → p ≡ owner o → fitsEntry p o e ≡ true → remoteRecord p o e ≡ []
 remote-none p o Absent at fits = refl
 remote-none p o (AtOwner d) at fits = refl
 remote-none p o (Elsewhere r) at fits = absurd (false≢true (rw (eq-eqb p (owner o) at) at (remote-away r p o fits)))

@@ -8,8 +8,8 @@ use native.Mathlib.Nat.{zero-add, add-zero}
 use native.Mathlib.Omega.{arith}
 use lib.Dec.{leb}
 use borrow.Author.Tests.{le-leb}
+use Rattle.terms.specs.ChooseLaws.{and-passes}
 use Rattle.terms.specs.Counted.{gatherFrom, gather}
-use Rattle.terms.specs.CountedLaws.{and-passes}
 use Rattle.table.specs.declared.Table.{Table}
 use Rattle.image.specs.declared.RecordKind.{RecordKind}
 use Rattle.image.specs.declared.Turn.{Turn}

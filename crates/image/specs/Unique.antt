@@ -10,7 +10,7 @@ use lib.Dec.{ltb, leb}
 use lib.ListN.{length}
 use borrow.Author.Tests.{leb-true}
 use Rattle.terms.specs.Choose.{if_then_else_}
-use Rattle.terms.specs.CountedLaws.{and-passes}
+use Rattle.terms.specs.ChooseLaws.{and-passes}
 use Rattle.terms.specs.Limits.{NODES, owner}
 use Rattle.table.specs.declared.Table.{Table}
 use Rattle.table.specs.Table.{freshTable}

@@ -44,7 +44,7 @@ pub(crate) fn roots_in(l: &[u8]) -> Roots
     Roots { at: at }
 }
 
-fn directory_in(l: &[u8]) -> Entry
+pub(crate) fn directory_in(l: &[u8]) -> Entry
     requires { ⌜ HEAD-BYTES + lengthOf DirectoryKind ≤ length (now l) ⌝ }
     ensures { λ r. ⌜ r ≡ directoryEntry (payload DirectoryKind (now (l .entry))) ⌝ }
 {
@@ -54,7 +54,7 @@ fn directory_in(l: &[u8]) -> Entry
     })
 }
 
-fn remote_in(l: &[u8]) -> Entry
+pub(crate) fn remote_in(l: &[u8]) -> Entry
     requires { ⌜ HEAD-BYTES + lengthOf RemoteKind ≤ length (now l) ⌝ }
     ensures { λ r. ⌜ r ≡ remoteEntry (payload RemoteKind (now (l .entry))) ⌝ }
 {

@@ -17,13 +17,13 @@ ghost use Rattle.image.specs.Stored.{FULL as ROOM-FOR-ALL, DIRECTORY-BYT
 ghost use Rattle.image.specs.Writer.{directoryRecord, remoteRecord};
 
 // The low byte of each kind's number, and the length of its payload.
-const DIRECTORY: u8 = 0x03;
+pub(crate) const DIRECTORY: u8 = 0x03;
 
-const DIRECTORY_PAYLOAD: u8 = 9;
+pub(crate) const DIRECTORY_PAYLOAD: u8 = 9;
 
-const REMOTE: u8 = 0x04;
+pub(crate) const REMOTE: u8 = 0x04;
 
-const REMOTE_PAYLOAD: u8 = 16;
+pub(crate) const REMOTE_PAYLOAD: u8 = 16;
 
 // The owner's entry.
 fn put_owners(out: &mut [u8; FULL], at: usize, o: u8, d: Directory) -> usize
@@ -39,7 +39,7 @@ fn put_owners(out: &mut [u8; FULL], at: usize, o: u8, d: Directory) -> usize
 }
 
 // Presence as a byte.
-fn one_if(there: bool) -> u8
+pub(crate) fn one_if(there: bool) -> u8
     ensures { λ r. ⌜ r ≡ one there ⌝ }
 {
     if there { 1 } else { 0 }

@@ -10,13 +10,13 @@ ghost use Prim.Native.Nat.{_+_, _≤_};
 ghost use Rattle.image.specs.Stored.{FULL as ROOM-FOR-ALL, OBJECT-BYTES, ROOTS-BYTES, HEAP-BYTES, Put, liveRecord, nodeRecord, heapRecords};
 
 // The low byte of each kind's number, and the length of its payload.
-const LIVE: u8 = 0x01;
+pub(crate) const LIVE: u8 = 0x01;
 
-const LIVE_PAYLOAD: u8 = 5;
+pub(crate) const LIVE_PAYLOAD: u8 = 5;
 
-const ROOTS: u8 = 0x02;
+pub(crate) const ROOTS: u8 = 0x02;
 
-const ROOTS_PAYLOAD: u8 = 9;
+pub(crate) const ROOTS_PAYLOAD: u8 = 9;
 
 // An object, if it is live.
 fn put_object(out: &mut [u8; FULL], at: usize, o: u8, x: Object) -> usize

@@ -1,27 +1,38 @@
 // The saved image of a table. The types that the reader hands back, and the writer; what is read and written stands in specs/.
+mod checks; // checks.rt: an image checked where it lies
 mod contents; // contents.rt: what the records hold that are read
 mod entry_records; // entry_records.rt: the records of directories and of other entries
+mod finds; // finds.rt: what stands at a position of the image order
 mod frames; // frames.rt: the frame of a record that is read
 mod fronts; // fronts.rt: the record at the front of the bytes that are read
 mod heap_records; // heap_records.rt: the records of live objects and of roots
 mod message_records; // message_records.rt: the records of the messages in the air
 mod numbers; // numbers.rt: numbers in bytes
 mod orders; // orders.rt: the order of the records that are read
+mod record_bytes; // record_bytes.rt: the bytes of one record by itself
 mod stores; // stores.rt: bytes stored one behind the other
+mod told; // told.rt: what a record tells, taken apart
 mod whole; // whole.rt: the whole image, section by section
 
+pub use checks::check;
 use contents::decrement_in;
 use contents::object_in;
 use contents::reference_in;
 use contents::roots_in;
 use contents::with_directory;
 use contents::with_remote;
+use entry::Entry;
+pub use finds::look_from;
 use frames::HEAD;
 use fronts::front_of;
 use heap::Heap;
+use heap::Object;
+use heap::Roots;
 use numbers::number_at;
+pub use record_bytes::record_of;
 use stores::FULL;
 use stores::copy;
+use table::Message;
 use table::Table;
 use whole::make;
 ghost use mathlib.Core.Path.{_≡_};
@@ -39,6 +50,51 @@ pub struct Loaded {
 // The answer is 0 or the refusal's number; refused, the length is 0.
 pub struct Written {
     pub answer: u8,
+    pub length: usize,
+}
+
+// An object, its fields one by one: an enum holds no array.
+pub struct ObjectParts {
+    pub live: bool,
+    pub f0: u8,
+    pub f1: u8,
+    pub f2: u8,
+    pub f3: u8,
+}
+
+// The roots of a node, one by one.
+pub struct RootParts {
+    pub r0: u8,
+    pub r1: u8,
+    pub r2: u8,
+    pub r3: u8,
+    pub r4: u8,
+    pub r5: u8,
+    pub r6: u8,
+    pub r7: u8,
+}
+
+// What a record tells of the field.
+pub enum Held {
+    Nothing,
+    Count(u32),
+    Object(ObjectParts),
+    Roots(RootParts),
+    Entry(Entry),
+    Message(Message),
+}
+
+// What stands at a position of the image order: from where to where in the bytes, and what it tells. Where nothing stands, from and to are
+// the place where it would.
+pub struct Found {
+    pub at: usize,
+    pub after: usize,
+    pub held: Held,
+}
+
+// The bytes of one record, and how many of them count.
+pub struct RecordBytes {
+    pub bytes: [u8; 20],
     pub length: usize,
 }
 

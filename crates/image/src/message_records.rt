@@ -15,13 +15,13 @@ ghost use Rattle.image.specs.Stored.{FULL as ROOM-FOR-ALL, MESSAGE-BYTES
 ghost use Rattle.image.specs.Writer.{messageRecord};
 
 // The low byte of each kind's number, and the length of its payload.
-const REFERENCE: u8 = 0x05;
+pub(crate) const REFERENCE: u8 = 0x05;
 
-const REFERENCE_PAYLOAD: u8 = 4;
+pub(crate) const REFERENCE_PAYLOAD: u8 = 4;
 
-const DECREMENT: u8 = 0x06;
+pub(crate) const DECREMENT: u8 = 0x06;
 
-const DECREMENT_PAYLOAD: u8 = 12;
+pub(crate) const DECREMENT_PAYLOAD: u8 = 12;
 
 // A reference in the air.
 fn put_reference(out: &mut [u8; FULL], at: usize, s: u8, from: u8, to: u8, o: u8) -> usize

@@ -14,20 +14,20 @@ ghost use Rattle.image.specs.Records.{HEAD, lengthOf};
 ghost use Rattle.image.specs.declared.RecordKind.the-variants.{NodeRoots};
 
 // The first position of each section of the image.
-const OBJECTS: u32 = 65536;
+pub(crate) const OBJECTS: u32 = 65536;
 
-const ROOTS: u32 = 131072;
+pub(crate) const ROOTS: u32 = 131072;
 
-const DIRECTORIES: u32 = 196608;
+pub(crate) const DIRECTORIES: u32 = 196608;
 
-const REMOTES: u32 = 262144;
+pub(crate) const REMOTES: u32 = 262144;
 
-const MESSAGES: u32 = 327680;
+pub(crate) const MESSAGES: u32 = 327680;
 
-const END: u32 = 393216;
+pub(crate) const END: u32 = 393216;
 
 // No record stands from here on.
-const PAST: u32 = 458752;
+pub(crate) const PAST: u32 = 458752;
 
 const LAST_NODE: u8 = 7;
 

@@ -15,7 +15,7 @@ const BYTE: u32 = 256;
 const ALL: u32 = 4294967295;
 
 // The high byte of every kind's number.
-const KIND: u8 = 0x01;
+pub(crate) const KIND: u8 = 0x01;
 
 // One byte.
 pub(crate) fn store_byte(out: &mut [u8; FULL], at: usize, a: u8) -> usize
@@ -47,25 +47,25 @@ pub(crate) fn store_head(out: &mut [u8; FULL], at: usize, payload: u8, kind: u8)
 }
 
 // The four bytes of a number, lowest first.
-fn byte_0(x: u32) -> u8
+pub(crate) fn byte_0(x: u32) -> u8
     ensures { λ r. ⌜ r ≡ x % 256 ⌝ }
 {
     (x % BYTE) as u8
 }
 
-fn byte_1(x: u32) -> u8
+pub(crate) fn byte_1(x: u32) -> u8
     ensures { λ r. ⌜ r ≡ x / 256 % 256 ⌝ }
 {
     (x / BYTE % BYTE) as u8
 }
 
-fn byte_2(x: u32) -> u8
+pub(crate) fn byte_2(x: u32) -> u8
     ensures { λ r. ⌜ r ≡ x / 256 / 256 % 256 ⌝ }
 {
     (x / BYTE / BYTE % BYTE) as u8
 }
 
-fn byte_3(x: u32) -> u8
+pub(crate) fn byte_3(x: u32) -> u8
     ensures { λ r. ⌜ r ≡ x / 256 / 256 / 256 % 256 ⌝ }
 {
     (x / BYTE / BYTE / BYTE % BYTE) as u8
@@ -84,7 +84,7 @@ pub(crate) fn store_number(out: &mut [u8; FULL], at: usize, x: u32) -> usize
 }
 
 // A return count in two's complement.
-fn bits_of(c: ReturnCount) -> u32
+pub(crate) fn bits_of(c: ReturnCount) -> u32
     ensures { λ r. ⌜ r ≡ twosComplement (c .0) ⌝ }
 {
     let z = c.0;

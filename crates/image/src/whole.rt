@@ -11,9 +11,9 @@ ghost use lib.ListN.{length};
 ghost use Rattle.image.specs.Stored.{FULL as ROOM-FOR-ALL, Made};
 
 // The low byte of each kind's number, and the length of its payload.
-const COUNT: u8 = 0x00;
+pub(crate) const COUNT: u8 = 0x00;
 
-const COUNT_PAYLOAD: u8 = 4;
+pub(crate) const COUNT_PAYLOAD: u8 = 4;
 
 const END: u8 = 0xFF;
 

@@ -1,61 +1,38 @@
-pub mod AirKeeps
-pub mod Alive
-pub mod Along
-pub mod Answered
-pub mod Chains
-pub mod Change
-pub mod ClearLaws
-pub mod CollectKeeps
-pub mod CollectSafe
-pub mod Collected
-pub mod Counts
-pub mod CountsKept
-pub mod Did
-pub mod DidLaws
-pub mod Drained
-pub mod Effect
-pub mod Effects
-pub mod EntryFits
-pub mod FreshHeld
-pub mod FreshNumber
-pub mod Good
-pub mod Growing
-pub mod HeapKeeps
-pub mod HeldAfter
-pub mod Holding
-pub mod InRange
-pub mod KeepsShape
-pub mod Kept
+-- What holds of every sequence of accepted events, in reading order: what is said stands here, why it holds in the folders.
+
+-- all of it on one page
+pub mod Promises
+-- ---- what is said
+
+-- sequences of accepted events
+pub mod Sequence
+-- laws A to E
 pub mod LawA
 pub mod LawB
 pub mod LawC
 pub mod LawD
 pub mod LawE
-pub mod LawEHolds
-pub mod Lawful
-pub mod LawfulKept
-pub mod Link
-pub mod LinkCollect
-pub mod Linked
-pub mod NewOrSame
-pub mod Nobody
-pub mod NotTorn
-pub mod OnTheWayHome
-pub mod OneMore
-pub mod Passings
-pub mod Presence
-pub mod Promises
-pub mod Sequence
-pub mod ShapeLaws
+-- what every accepted event keeps, and the same as a test that computes
 pub mod Sound
-pub mod SoundKept
 pub mod SoundTest
 pub mod SoundTestLaws
-pub mod Spot
-pub mod Starts
-pub mod TableLaws
-pub mod UsedKept
-pub mod WholeHeap
-pub mod Within
-pub mod WithinKept
-pub mod Writes
+-- ---- why it holds
+
+-- a table taken apart
+pub mod Tables
+-- what an accepted event did, and that it keeps the shape
+pub mod Events
+-- one object's entries and messages: laws A, B and C, and clear means nobody
+pub mod Counting
+-- what nodes hold: law D, COLLECT and NEW
+pub mod Heap
+-- law E
+pub mod Draining
+-- ---- put together
+
+-- no event is TORN
+pub mod NotTorn
+-- every accepted event keeps Sound
+pub mod SoundKept
+-- what the return count adds to RC
+pub mod OnTheWayHome

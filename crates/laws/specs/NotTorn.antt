@@ -41,13 +41,13 @@ use Rattle.step.specs.Send.{isDeadOwn, send}
 use Rattle.step.specs.Settle.{settleOf}
 use Rattle.step.specs.Step.{common, oneMore, ruleFor, ruleOf, step}
 use Rattle.step.specs.Store.{store}
-use Rattle.laws.specs.Answered.{NoneApplies, counted-answer}
-use Rattle.laws.specs.DidLaws.{Below, below}
-use Rattle.laws.specs.HeldAfter.{root-live}
-use Rattle.laws.specs.Holding.{WellHeld, sound-held}
-use Rattle.laws.specs.ShapeLaws.{Shaped, root-object, shaped}
+use Rattle.laws.specs.Events.Answered.{NoneApplies, counted-answer}
+use Rattle.laws.specs.Events.DidLaws.{Below, below}
+use Rattle.laws.specs.Heap.HeldAfter.{root-live}
+use Rattle.laws.specs.Heap.Holding.{WellHeld, sound-held}
+use Rattle.laws.specs.Heap.WholeHeap.{collect-whole, new-unlisted, receive-alive, send-alive, send-present}
 use Rattle.laws.specs.Sound.{NeverTorn, Sound}
-use Rattle.laws.specs.WholeHeap.{collect-whole, new-unlisted, receive-alive, send-alive, send-present}
+use Rattle.laws.specs.Tables.ShapeLaws.{Shaped, root-object, shaped}
 
 -- ---- a list of refusals that does not give one number
 

@@ -11,12 +11,12 @@ use Rattle.counting.specs.Homeward.{returns-homeward}
 use Rattle.table.specs.declared.Table.{Table}
 use Rattle.table.specs.Shape.{fitsTable}
 use Rattle.table.specs.Table.{entryAt, messageAt}
-use Rattle.laws.specs.Chains.{lawful-table}
-use Rattle.laws.specs.ClearLaws.{share-shaped}
+use Rattle.laws.specs.Counting.Chains.{lawful-table}
+use Rattle.laws.specs.Counting.ClearLaws.{share-shaped}
+use Rattle.laws.specs.Counting.Lawful.{rules, share}
 use Rattle.laws.specs.LawA.{LawA}
 use Rattle.laws.specs.LawB.{LawB, isHomeward}
 use Rattle.laws.specs.LawC.{LawC}
-use Rattle.laws.specs.Lawful.{rules, share}
 use Rattle.laws.specs.Sequence.{Always}
 use Rattle.laws.specs.SoundKept.{always-sound}
 

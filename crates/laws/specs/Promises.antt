@@ -16,16 +16,16 @@ use Rattle.step.specs.Collect.{starts}
 use Rattle.step.specs.Event.{COLLECT, NEW, event}
 use Rattle.step.specs.Outcome.{valueOf}
 use Rattle.step.specs.Step.{step}
-use Rattle.laws.specs.Alive.{law-d}
-use Rattle.laws.specs.Change.{isOf}
-use Rattle.laws.specs.CollectSafe.{collect-exact, collect-safe}
-use Rattle.laws.specs.FreshNumber.{Unnamed, new-unnamed}
+use Rattle.laws.specs.Counting.Change.{isOf}
+use Rattle.laws.specs.Draining.LawEHolds.{law-e}
+use Rattle.laws.specs.Heap.Alive.{law-d}
+use Rattle.laws.specs.Heap.CollectSafe.{collect-exact, collect-safe}
+use Rattle.laws.specs.Heap.FreshNumber.{Unnamed, new-unnamed}
 use Rattle.laws.specs.LawA.{LawA}
 use Rattle.laws.specs.LawB.{LawB}
 use Rattle.laws.specs.LawC.{LawC}
 use Rattle.laws.specs.LawD.{LawD, Used}
 use Rattle.laws.specs.LawE.{Clear, LawE}
-use Rattle.laws.specs.LawEHolds.{law-e}
 use Rattle.laws.specs.NotTorn.{never-torn}
 use Rattle.laws.specs.Sequence.{Always}
 use Rattle.laws.specs.Sound.{NeverTorn, Sound}

@@ -8,23 +8,23 @@ use Rattle.table.specs.declared.Table.{Table}
 use Rattle.table.specs.Formed.{Formed}
 use Rattle.table.specs.Shape.{fitsTable}
 use Rattle.step.specs.Step.{step}
-use Rattle.laws.specs.ClearLaws.{clear-means-nobody}
-use Rattle.laws.specs.CountsKept.{Counted, counted-fresh, counted-kept, counted-lawful, counted-within}
-use Rattle.laws.specs.DidLaws.{count-after}
-use Rattle.laws.specs.FreshHeld.{fresh-held}
-use Rattle.laws.specs.HeldAfter.{held-after}
-use Rattle.laws.specs.Holding.{WellHeld, sound-held}
-use Rattle.laws.specs.InRange.{receives-in-range, sends-in-range, settles-in-range}
-use Rattle.laws.specs.KeepsShape.{keeps-form, keeps-shape}
-use Rattle.laws.specs.Kept.{Keeps, always, fresh-formed, fresh-shape}
-use Rattle.laws.specs.Lawful.{Lawful}
-use Rattle.laws.specs.LinkCollect.{change}
-use Rattle.laws.specs.Nobody.{Bridge}
+use Rattle.laws.specs.Counting.ClearLaws.{clear-means-nobody}
+use Rattle.laws.specs.Counting.CountsKept.{Counted, counted-fresh, counted-kept, counted-lawful, counted-within}
+use Rattle.laws.specs.Counting.InRange.{receives-in-range, sends-in-range, settles-in-range}
+use Rattle.laws.specs.Counting.Lawful.{Lawful}
+use Rattle.laws.specs.Counting.LinkCollect.{change}
+use Rattle.laws.specs.Counting.Within.{Within}
+use Rattle.laws.specs.Events.DidLaws.{count-after}
+use Rattle.laws.specs.Events.KeepsShape.{keeps-form, keeps-shape}
+use Rattle.laws.specs.Events.Kept.{Keeps, always, fresh-formed, fresh-shape}
+use Rattle.laws.specs.Heap.FreshHeld.{fresh-held}
+use Rattle.laws.specs.Heap.HeldAfter.{held-after}
+use Rattle.laws.specs.Heap.Holding.{WellHeld, sound-held}
+use Rattle.laws.specs.Heap.Nobody.{Bridge}
 use Rattle.laws.specs.NotTorn.{CountsWhole}
 use Rattle.laws.specs.Sequence.{Always}
-use Rattle.laws.specs.ShapeLaws.{reference-way, decrement-way, shaped}
 use Rattle.laws.specs.Sound.{Sound}
-use Rattle.laws.specs.Within.{Within}
+use Rattle.laws.specs.Tables.ShapeLaws.{reference-way, decrement-way, shaped}
 
 -- ---- Sound is the shape, the counts' part and the heap's part
 
@@ -54,9 +54,7 @@ all-sound formed shape counted held = record {
 
 -- clear means nobody
 pub sound-bridge : {t : Table} → Sound t → Bridge t
-sound-bridge {t} sound o lt clear =
-    let nobody = clear-means-nobody t o (sound .shape) lt (counted-lawful t (sound .shape) (counted-of sound) o lt) clear in
-    record { entries = nobody .0; messages = nobody .1 }
+sound-bridge {t} sound o lt = clear-means-nobody t o (sound .shape) lt (counted-lawful t (sound .shape) (counted-of sound) o lt)
 
 -- no act is refused for its counts
 pub sound-counts : {t : Table} → Sound t → CountsWhole t

@@ -8,8 +8,9 @@ use lib.Dec.{eqb, leb}
 use lib.IntN.{ℤ, pos, negsuc, _+ℤ_, pos-ne-negsuc}
 use borrow.Author.Tests.{eq-eqb, eqb-true, le-leb, leb-true, lt-ltb}
 use Rattle.terms.specs.Choose.{_or_}
+use Rattle.terms.specs.ChooseLaws.{and-passes}
 use Rattle.terms.specs.Counted.{every, howMany}
-use Rattle.terms.specs.CountedLaws.{and-passes, every-all, every-at}
+use Rattle.terms.specs.CountedLaws.{every-all, every-at}
 use Rattle.terms.specs.Limits.{NODES, OBJECTS, PLACES, FIELDS, ROOTS, STEPS, owner}
 use Rattle.entry.specs.Entry.{isAbsent, isDirectory, msgCtrOf, rcOf}
 use Rattle.heap.specs.Heap.{fieldAt, isLive, rootAt}
@@ -24,20 +25,23 @@ use Rattle.laws.specs.LawA.{LawA, inflow}
 use Rattle.laws.specs.LawB.{LawB, isHomeward, returnsIn, total}
 use Rattle.laws.specs.LawC.{LawC}
 use Rattle.laws.specs.Sound.{Sound, below, holdsWell, returnsAbove}
-use Rattle.laws.specs.SoundTest.{everywhere, isSame, isSound, namesLive, passesA, passesB, passesC, passesCounts, passesDirectories, passesFields, passesOwed, passesReferences, passesReturns, passesRoots}
+use Rattle.laws.specs.SoundTest.{everywhere, isSame, isSound, namesLive, passesA, passesB, passesC, passesRoots, passesFields}
+use Rattle.laws.specs.SoundTest.{passesDirectories, passesReferences, passesCounts, passesReturns, passesOwed}
 
 -- ---- what tests say
 
--- every number below n passes
-every-is : (n : ℕ) (test : ℕ → Bool) → (every n test ≡ true) ↔ ((k : ℕ) → k < n → test k ≡ true)
-every-is n test = (every-at n test, every-all n test)
+-- every number below n passes, and what the test says of each
+every-is : (n : ℕ) (test : ℕ → Bool) (P : ℕ → Type 0) → ((k : ℕ) → k < n → (test k ≡ true) ↔ P k)
+    → (every n test ≡ true) ↔ ((k : ℕ) → k < n → P k)
+every-is n test P is = (λ e k lt. is k lt .0 (every-at n test e k lt), λ h. every-all n test (λ k lt. is k lt .1 (h k lt)))
 
 -- every node with every object does
-everywhere-is : (test : ℕ → ℕ → Bool) → (everywhere test ≡ true) ↔ ((p o : ℕ) → p < NODES → o < OBJECTS → test p o ≡ true)
-everywhere-is test = (
-  λ e p o node lt. every-at OBJECTS (test p) (every-at NODES (λ q. every OBJECTS (test q)) e p node) o lt,
-  λ h. every-all NODES (λ q. every OBJECTS (test q)) (λ p node. every-all OBJECTS (test p) (λ o lt. h p o node lt)),
-)
+everywhere-is : (test : ℕ → ℕ → Bool) (P : ℕ → ℕ → Type 0) → ((p o : ℕ) → p < NODES → o < OBJECTS → (test p o ≡ true) ↔ P p o)
+    → (everywhere test ≡ true) ↔ ((p o : ℕ) → p < NODES → o < OBJECTS → P p o)
+everywhere-is test P is =
+    let rows = every-is NODES (λ p. every OBJECTS (test p)) (λ p. (o : ℕ) → o < OBJECTS → P p o)
+    (λ p node. every-is OBJECTS (test p) (P p) (λ o lt. is p o node lt)) in
+    (λ e p o node lt. rows .0 e p node o lt, λ h. rows .1 (λ p node o lt. h p o node lt))
 
 -- one test passes only where another does
 implies-is : (a b : Bool) → ((not a or b) ≡ true) ↔ (a ≡ true → b ≡ true)
@@ -65,11 +69,7 @@ module _ (t : Table) where
   -- law A
   lawA-is : (passesA t ≡ true) ↔ LawA t
   unfolding passesA
-  lawA-is =
-      let is = everywhere-is (λ p o. eqb (rcOf (entryAt t p o)) (inflow t p o)) in (
-        λ e p o node lt. eqb-is (rcOf (entryAt t p o)) (inflow t p o) .0 (is .0 e p o node lt),
-        λ h. is .1 (λ p o node lt. eqb-is (rcOf (entryAt t p o)) (inflow t p o) .1 (h p o node lt)),
-      )
+  lawA-is = everywhere-is _ _ (λ p o node lt. eqb-is (rcOf (entryAt t p o)) (inflow t p o))
 
   -- return counts
   abbrev returned : ℕ → ℤ
@@ -82,11 +82,7 @@ module _ (t : Table) where
   -- law B
   lawB-is : (passesB t ≡ true) ↔ LawB t
   unfolding passesB
-  lawB-is =
-      let is = every-is OBJECTS (λ o. isSame (returned o) (homeward o)) in (
-        λ e o lt. same-is (returned o) (homeward o) .0 (is .0 e o lt),
-        λ h. is .1 (λ o lt. same-is (returned o) (homeward o) .1 (h o lt)),
-      )
+  lawB-is = every-is OBJECTS _ _ (λ o lt. same-is (returned o) (homeward o))
 
   -- in shape and in range, the report is the depth
   report-is : fitsTable t ≡ true → (p o : ℕ) → p < NODES → o < OBJECTS → depthReport t p o ≡ depthNumber (depth t p o)
@@ -105,11 +101,7 @@ module _ (t : Table) where
   -- law C
   lawC-is : fitsTable t ≡ true → (passesC t ≡ true) ↔ LawC t
   unfolding passesC
-  lawC-is shape =
-      let is = everywhere-is (λ p o. isAbsent (entryAt t p o) or leb (depthNumber (depth t p o)) STEPS) in (
-        λ e p o node lt. deep-is shape p o node lt .0 (is .0 e p o node lt),
-        λ h. is .1 (λ p o node lt. deep-is shape p o node lt .1 (h p o node lt)),
-      )
+  lawC-is shape = everywhere-is _ _ (deep-is shape)
 
   -- roots
   roots-is : (passesRoots t ≡ true) ↔ ((p r : ℕ) → p < NODES → r < ROOTS → holdsWell t p (rootAt (t .heap) p r) ≡ true)
@@ -134,11 +126,7 @@ module _ (t : Table) where
   directories-is : (passesDirectories t ≡ true)
       ↔ ((p o : ℕ) → p < NODES → o < OBJECTS → isDirectory (entryAt t p o) ≡ true → isLive (t .heap) o ≡ true)
   unfolding passesDirectories
-  directories-is =
-      let is = everywhere-is (λ p o. not (isDirectory (entryAt t p o)) or isLive (t .heap) o) in (
-        λ e p o node lt. implies-is (isDirectory (entryAt t p o)) (isLive (t .heap) o) .0 (is .0 e p o node lt),
-        λ h. is .1 (λ p o node lt. implies-is (isDirectory (entryAt t p o)) (isLive (t .heap) o) .1 (h p o node lt)),
-      )
+  directories-is = everywhere-is _ _ (λ p o node lt. implies-is (isDirectory (entryAt t p o)) (isLive (t .heap) o))
 
   -- one message
   names-is : (m : Message) → (namesLive t m ≡ true) ↔ ((o : ℕ) → isReferenceOf o m ≡ true → isLive (t .heap) o ≡ true)
@@ -150,31 +138,23 @@ module _ (t : Table) where
   references-is : (passesReferences t ≡ true) ↔ ((s o : ℕ) → s < PLACES → isReferenceOf o (messageAt t s) ≡ true → isLive (t .heap) o ≡ true)
   unfolding passesReferences
   references-is =
-      let is = every-is PLACES (λ s. namesLive t (messageAt t s)) in (
-        λ e s o place. names-is (messageAt t s) .0 (is .0 e s place) o,
-        λ h. is .1 (λ s place. names-is (messageAt t s) .1 (λ o. h s o place)),
-      )
+      let is = every-is PLACES (λ s. namesLive t (messageAt t s)) _ (λ s place. names-is (messageAt t s)) in
+      (λ e s o place. is .0 e s place o, λ h. is .1 (λ s place o. h s o place))
 
   -- RC
   counts-is : (passesCounts t ≡ true) ↔ ((p o : ℕ) → p < NODES → o < OBJECTS → rcOf (entryAt t p o) ≤ t .count)
   unfolding passesCounts
-  counts-is =
-      let is = everywhere-is (λ p o. leb (rcOf (entryAt t p o)) (t .count)) in
-      (λ e p o node lt. leb-true _ _ (is .0 e p o node lt), λ h. is .1 (λ p o node lt. le-leb _ _ (h p o node lt)))
+  counts-is = everywhere-is _ _ (λ p o node lt. leb-is (rcOf (entryAt t p o)) (t .count))
 
   -- return counts above zero
   returns-is : (passesReturns t ≡ true) ↔ ((o : ℕ) → o < OBJECTS → returnsAbove t o ≤ t .count)
   unfolding passesReturns
-  returns-is =
-      let is = every-is OBJECTS (λ o. leb (returnsAbove t o) (t .count)) in
-      (λ e o lt. leb-true _ _ (is .0 e o lt), λ h. is .1 (λ o lt. le-leb _ _ (h o lt)))
+  returns-is = every-is OBJECTS _ _ (λ o lt. leb-is (returnsAbove t o) (t .count))
 
   -- return counts below zero
   owed-is : (passesOwed t ≡ true) ↔ ((p o : ℕ) → p < NODES → o < OBJECTS → below (msgCtrOf (entryAt t p o)) ≤ t .count)
   unfolding passesOwed
-  owed-is =
-      let is = everywhere-is (λ p o. leb (below (msgCtrOf (entryAt t p o))) (t .count)) in
-      (λ e p o node lt. leb-true _ _ (is .0 e p o node lt), λ h. is .1 (λ p o node lt. le-leb _ _ (h p o node lt)))
+  owed-is = everywhere-is _ _ (λ p o node lt. leb-is (below (msgCtrOf (entryAt t p o))) (t .count))
 
   -- ---- the whole
 

@@ -5,9 +5,9 @@ use mathlib.Core.Bool.{Bool, true, false, not, false≢true}
 use Prim.Native.Nat.{_-_}
 use lib.Dec.{leb, ltb}
 use Rattle.terms.specs.Choose.{if_then_else_, _and_}
+use Rattle.terms.specs.ChooseLaws.{and-passes}
 use Rattle.terms.specs.Limits.{MOST, NODES}
 use Rattle.terms.specs.Numbers.{ACCEPTED, TORN}
-use Rattle.terms.specs.CountedLaws.{and-passes}
 use Rattle.entry.specs.declared.ReturnCount.{ReturnCount}
 use Rattle.entry.specs.declared.Weight.{Weight}
 use Rattle.entry.specs.declared.Directory.{Directory}

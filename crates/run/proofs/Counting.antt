@@ -8,7 +8,8 @@ use native.Mathlib.Omega.{arith}
 use Rattle.terms.specs.Counted.{sumFrom, sum, one}
 use Rattle.terms.specs.CountedLaws.{sum-last}
 use Rattle.step.specs.declared.Deed.{Deed}
-use Rattle.step.specs.declared.Deed.the-variants.{Refused, Arranged, Born, Sent, CameHome, Made, Merged, Answered, Settled, Collected, Dropped, Cleared}
+use Rattle.step.specs.declared.Deed.the-variants.{Refused, Arranged, Born, Sent, CameHome, Made}
+use Rattle.step.specs.declared.Deed.the-variants.{Merged, Answered, Settled, Collected, Dropped, Cleared}
 use Rattle.step.specs.Outcome.{decrementsSaved, decrementsSent}
 
 -- ---- a loop that sums f over the numbers below a limit

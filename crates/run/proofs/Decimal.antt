@@ -1,6 +1,5 @@
 -- Numbers in decimal: the last digit taken off, and how many digits there are at most. Assumes nothing.
 use mathlib.Core.Path.{_≡_, sym, ap, _∙_}
-use mathlib.Core.Bool.{true, false}
 use mathlib.Core.List.{List, [], _∷_, _++_}
 use Prim.Native.Nat.{ℕ, zero, suc, _+_, _/_, _%_, _^_, _<_, _≤_}
 use native.Mathlib.Nat.{pow-suc, div-lt-iff-lt-mul}

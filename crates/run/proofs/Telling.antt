@@ -90,7 +90,8 @@ module _ {input out₀ out : List ℕ} {p : Progress} {from at : ℕ} (a : Ahead
   -- an event more
   module _ (e : Event) (lt : p .records < RECORDS) (f : next (drop from input) ≡ Found e) where
     text-more : runFrom (RECORDS - p .records) p (drop from input)
-        ≡ line (p .records + 1) e (step (p .table) e) ++ runFrom (RECORDS - (p .records + 1)) (after p (step (p .table) e)) (drop (from + RECORD) input)
+        ≡ line (p .records + 1) e (step (p .table) e)
+        ++ runFrom (RECORDS - (p .records + 1)) (after p (step (p .table) e)) (drop (from + RECORD) input)
     unfolding runFrom
     text-more = rw (fewer lt, f, drop-drop RECORD from input)
 

@@ -31,7 +31,8 @@ pub room-front : {out : List ℕ} {at : ℕ} {v : List ℕ} (w : List ℕ) → R
 room-front {v = v} w r = record { fits = omega (arith, length-append v w) }
 
 -- and, once the first is written, for the second
-pub room-rest : {out : List ℕ} {at : ℕ} {v : List ℕ} {out′ : List ℕ} {n : ℕ} {w : List ℕ} → Wrote out at v out′ n → Room out at (v ++ w) → Room out′ n w
+pub room-rest : {out : List ℕ} {at : ℕ} {v : List ℕ} {out′ : List ℕ} {n : ℕ} {w : List ℕ}
+    → Wrote out at v out′ n → Room out at (v ++ w) → Room out′ n w
 room-rest {v = v} {w = w} a r = record { fits = omega (arith, length-append v w, wrote-length a) }
 
 -- no text

@@ -1,6 +1,6 @@
 -- What stands at the front of a stream of event records (document 01, "One run in full": a record whose length isn't 4, a cut record).
 -- Definitions only; assumes nothing.
-use mathlib.Core.Bool.{true, false, not}
+use mathlib.Core.Bool.{not}
 use mathlib.Core.List.{List}
 use Prim.Native.Nat.{ℕ}
 use lib.Dec.{ltb, eqb}

@@ -1,6 +1,6 @@
 -- A run into a lent buffer: what comes back, and what the buffer is afterwards. The buffer has room for the longest text that a run can
 -- print, or nothing is written. Definitions only; assumes nothing.
-use mathlib.Core.Bool.{Bool, true, false}
+use mathlib.Core.Bool.{Bool}
 use mathlib.Core.List.{List}
 use Prim.Native.Nat.{ℕ, _+_, _*_}
 use lib.Dec.{ltb}

@@ -1,6 +1,6 @@
 -- The run that `fieldrun` tells of (document 01, "One run in full, and edges"): a line for each event record, and a summary. Sent and
 -- saved are counted from what the events did. Definitions only; assumes nothing.
-use mathlib.Core.Bool.{true, false, not}
+use mathlib.Core.Bool.{not}
 use mathlib.Core.List.{List, [], _∷_, _++_}
 use Prim.Native.Nat.{ℕ, zero, suc, _+_}
 use lib.ListN.{drop}

@@ -1,5 +1,4 @@
 -- Text as bytes: ASCII, and numbers in decimal (document 01, "One run in full"). Definitions only; assumes nothing.
-use mathlib.Core.Bool.{true, false}
 use mathlib.Core.List.{List, [], _∷_, _++_}
 use Prim.Native.Nat.{ℕ, zero, suc, _+_, _/_, _%_}
 use Prim.Native.Char.{code}

@@ -2,7 +2,8 @@
 ghost use mathlib.Core.Path.{_≡_};
 ghost use Prim.Native.Nat.{_≤_};
 ghost use lib.ListN.{drop};
-ghost use Rattle.scenario.specs.Line.{isBlank as isBlankOf, isDigit as isDigitOf, skipped, digits as digitsOf, startsNumber, numberIn, ends as endsOf};
+ghost use Rattle.scenario.specs.Line.{isBlank as isBlankOf, isDigit as isDigitOf, digits as digitsOf, ends as endsOf};
+ghost use Rattle.scenario.specs.Line.{skipped, startsNumber, numberIn};
 ghost use Rattle.scenario.specs.Number.{meant, valueOf};
 
 // A number and the place past it.

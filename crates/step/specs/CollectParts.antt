@@ -1,5 +1,5 @@
 -- Parts of COLLECT as the code finds them: on the heap alone, and by marks for what the table's entries say. Each comes to the definition
--- of specs/Collect.antt; proofs/CollectLaws.antt has what isn't so by computation. Definitions only; assumes nothing.
+-- of specs/Collect.antt; specs/CollectLaws.antt has what isn't so by computation. Definitions only; assumes nothing.
 use mathlib.Core.Bool.{Bool, not}
 use mathlib.Core.List.{_++_}
 use Prim.Native.Nat.{ℕ}

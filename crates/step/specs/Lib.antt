@@ -1,5 +1,6 @@
 pub mod Clear
 pub mod Collect
+pub mod CollectLaws
 pub mod CollectParts
 pub mod Drop
 pub mod Event
@@ -13,5 +14,4 @@ pub mod Receive
 pub mod Send
 pub mod Settle
 pub mod Step
-pub mod StepLaws
 pub mod Store

@@ -44,13 +44,9 @@ ruleFor Unknown t e = record { refusals = []; effect = refused t EVENT }
 abbrev pub ruleOf : Table → Event → Rule
 ruleOf t e = ruleFor (kindOf (e .kind)) t e
 
--- what any event may be refused for at a table that has the shape
-abbrev pub commonFitting : Table → Event → List Refusal
-commonFitting t e = (EVENT when not (fitsEvent e)) ∷ (ENDED when not (ltb (t .count) EVENTS)) ∷ []
-
 -- what any event may be refused for
 abbrev pub common : Table → Event → List Refusal
-common t e = (SHAPE when not (fitsTable t)) ∷ commonFitting t e
+common t e = (SHAPE when not (fitsTable t)) ∷ (EVENT when not (fitsEvent e)) ∷ (ENDED when not (ltb (t .count) EVENTS)) ∷ []
 
 -- all that this event at this table may be refused for, in the order in which it is tried
 abbrev pub refusalsOf : Table → Event → List Refusal
@@ -59,10 +55,6 @@ refusalsOf t e = common t e ++ ruleOf t e .refusals
 -- an accepted event adds 1 to the count of n events
 abbrev pub oneMore : ℕ → Outcome → Outcome
 oneMore n o = if isAccepted o then record { answer = o .answer; deed = o .deed; table = withCount (o .table) (n + 1) } else o
-
--- the shape not asked: the first other refusal that applies, or the effect
-unfoldable pub stepFitting : Table → Event → Outcome
-stepFitting t e = answered (refused t) (commonFitting t e) (oneMore (t .count) (by t (ruleOf t e)))
 
 -- the first refusal that applies, or the effect
 unfoldable pub step : Table → Event → Outcome

@@ -173,7 +173,7 @@ pub(crate) fn marked_live(h: Heap, marks: Marks) -> bool
 }
 
 // Every kept object is live, and p holds only what it may.
-pub(crate) fn is_whole(h: Heap, p: u8, present: Marks, marks: Marks) -> bool
+pub fn is_whole(h: Heap, p: u8, present: Marks, marks: Marks) -> bool
     ensures { λ x. ⌜ x ≡ isWhole h p (present .seen) (marks .seen) ⌝ }
 {
     if !marked_live(h, marks) {
@@ -200,7 +200,7 @@ pub(crate) fn is_reclaimed(h: Heap, p: u8, marks: Marks, o: u8) -> bool
 }
 
 // How many objects are reclaimed.
-pub(crate) fn reclaimed(h: Heap, p: u8, marks: Marks) -> u32
+pub fn reclaimed(h: Heap, p: u8, marks: Marks) -> u32
     ensures { λ x. ⌜ x ≡ howMany OBJECTS (reclaims h p (marks .seen)) ⌝ }
 {
     let mut n: u32 = 0;

@@ -14,7 +14,7 @@ ghost use Rattle.step.specs.Drop.{drop, dropOf, lastWords};
 ghost use Rattle.step.specs.Outcome.{by};
 
 // What a remote entry says as it goes: its return count and its whole weight, to its Parent.
-pub(crate) fn last_words(p: u8, o: u8, e: Remote) -> Message
+pub fn last_words(p: u8, o: u8, e: Remote) -> Message
     ensures { λ x. ⌜ x ≡ lastWords p o e ⌝ }
 {
     let m = e.msg_ctr;

@@ -15,8 +15,12 @@ mod send;
 mod settle;
 mod steps;
 
+pub use collect::is_whole;
+pub use collect::reclaimed;
+pub use drop::last_words;
+pub use receive::receipt;
+pub use receive::reply;
 pub use steps::step;
-pub use steps::step_fitting;
 
 // As it is written in a record: the kind has two bytes, each operand one.
 pub struct Event {

@@ -29,7 +29,7 @@ pub(crate) fn receive_torn(t: Table, from: u8, to: u8, o: u8, e: Entry) -> bool
 }
 
 // What is left in the place: a decrement to a sender that isn't the Parent, else nothing.
-pub(crate) fn reply(from: u8, to: u8, o: u8, e: Entry) -> Message
+pub fn reply(from: u8, to: u8, o: u8, e: Entry) -> Message
     ensures { λ x. ⌜ x ≡ reply from to o e ⌝ }
 {
     match e {
@@ -52,7 +52,7 @@ pub(crate) fn reply(from: u8, to: u8, o: u8, e: Entry) -> Message
 }
 
 // What the receipt was, by the entry that it found.
-pub(crate) fn receipt(s: u8, from: u8, e: Entry) -> Deed
+pub fn receipt(s: u8, from: u8, e: Entry) -> Deed
     ensures { λ x. ⌜ x ≡ receipt s from e ⌝ }
 {
     match e {

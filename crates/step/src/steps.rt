@@ -20,7 +20,7 @@ ghost use Prim.Native.Nat.{_<_};
 ghost use Rattle.terms.specs.Limits.{EVENTS};
 ghost use Rattle.step.specs.Event.{fitsEvent};
 ghost use Rattle.step.specs.Outcome.{by};
-ghost use Rattle.step.specs.Step.{ruleOf, oneMore, step, stepFitting};
+ghost use Rattle.step.specs.Step.{ruleOf, oneMore, step};
 
 // The rule of the event's kind.
 pub(crate) fn by_rule(t: Table, e: Event) -> Outcome
@@ -60,21 +60,7 @@ pub(crate) fn one_more(n: u32, o: Outcome) -> Outcome
     }
 }
 
-// The step of a table that is known to have the shape, as one that was read from an image: the shape is not asked again.
-pub fn step_fitting(t: Table, e: Event) -> Outcome
-    ensures { λ r. ⌜ r ≡ stepFitting t e ⌝ }
-{
-    if !e.fits() {
-        return refused(t, Outcome::EVENT);
-    }
-    let n = t.count;
-    if Table::EVENTS <= n {
-        return refused(t, Outcome::ENDED);
-    }
-    one_more(n, by_rule(t, e))
-}
-
-// Every table and every event is answered. The other tests stand here once more: a call of step_fitting would copy the table.
+// Every table and every event is answered.
 pub fn step(t: Table, e: Event) -> Outcome
     ensures { λ r. ⌜ r ≡ step t e ⌝ }
 {

@@ -1,5 +1,4 @@
 -- How far the owner is along Parent, and the report of it (document 01, law C). Definitions only; assumes nothing.
-use mathlib.Core.Bool.{Bool, true, false}
 use Prim.Native.Nat.{ℕ, zero, suc, _+_}
 use lib.Dec.{ltb}
 use Rattle.terms.specs.Choose.{if_then_else_, _and_}

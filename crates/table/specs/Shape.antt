@@ -1,6 +1,6 @@
 -- The shape that every table must have (document 01, "Shape"), the last sentence of which our types keep by themselves: where no entry
 -- and no message stands there are no numbers. Definitions only; assumes nothing.
-use mathlib.Core.Bool.{Bool, true, false, not}
+use mathlib.Core.Bool.{Bool, true, not}
 use Prim.Native.Nat.{ℕ}
 use lib.Dec.{leb, ltb, eqb}
 use Rattle.terms.specs.Choose.{_and_}

@@ -1,8 +1,8 @@
 -- The field table (document 01, "The field table"): what stands where, the fresh state, and the table with one thing changed.
 -- Definitions only; assumes nothing.
 use mathlib.Core.Bool.{Bool, true, false}
-use mathlib.Core.List.{List, [], _∷_}
-use Prim.Native.Nat.{ℕ, _+_}
+use mathlib.Core.List.{List, []}
+use Prim.Native.Nat.{ℕ}
 use lib.Dec.{eqb}
 use lib.ListN.{getD, set, replicate}
 use Rattle.terms.specs.Counted.{lowest}
@@ -13,8 +13,6 @@ use Rattle.heap.specs.declared.Heap.{Heap}
 use Rattle.heap.specs.Heap.{freshHeap}
 use Rattle.table.specs.declared.Message.{Message}
 use Rattle.table.specs.declared.Message.the-variants.{Empty, Reference, Decrement}
-use Rattle.table.specs.declared.Place.{Place}
-use Rattle.table.specs.declared.Slot.{Slot}
 use Rattle.table.specs.declared.Cell.{Cell}
 use Rattle.table.specs.declared.Table.{Table}
 

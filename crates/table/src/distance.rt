@@ -23,7 +23,7 @@ impl Depth {
     }
 
     // The number that it is reported by.
-    fn number(self) -> u8
+    pub fn number(self) -> u8
         ensures { λ r. ⌜ r ≡ depthNumber self ⌝ }
     {
         match self {
@@ -34,7 +34,14 @@ impl Depth {
 }
 
 impl Cell {
-    // From node p, by at most `left` steps; for every table that has this cell.
+    // The depth of the object whose cell it is at node p, for every table that has this cell.
+    pub fn depth(self, p: u8) -> Depth
+        ensures { λ r. ⌜ ((t : Table) (o : ℕ) → cellAt t o ≡ self → r ≡ depth t p o) ⌝ }
+    {
+        self.depth_by(p, Table::STEPS)
+    }
+
+    // By at most `left` steps.
     fn depth_by(self, p: u8, left: u8) -> Depth
         requires { ⌜ left ≤ STEPS ⌝ }
         ensures { λ r. ⌜ ((t : Table) (o : ℕ) → cellAt t o ≡ self → r ≡ depthBy left t o p) ⌝ }
@@ -65,7 +72,7 @@ impl Table {
         }
         let k = o as usize;
         let cell = self.cells[k];
-        cell.depth_by(p, Table::STEPS)
+        cell.depth(p)
     }
 
     // The depth as a number for the outside: UNREACHED where there is none, for a number out of range, and for a table that breaks the shape.

@@ -25,7 +25,8 @@ sets-more out at text done lt =
 
 -- v is stored, w is left: the whole is what it was
 module _ (out v w : List ℕ) (to : ℕ) where
-  pub stored-more : {out′ whole : List ℕ} {to′ : ℕ} → sets out to (v ++ w) ≡ whole → out′ ≡ sets out to v → to′ ≡ to + length v → sets out′ to′ w ≡ whole
+  pub stored-more : {out′ whole : List ℕ} {to′ : ℕ} → sets out to (v ++ w) ≡ whole → out′ ≡ sets out to v → to′ ≡ to + length v
+      → sets out′ to′ w ≡ whole
   stored-more h e f = rw (e, f) (sym (sets-append out to v w) ∙ h)
 
 -- stores from the front

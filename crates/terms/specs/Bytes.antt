@@ -1,5 +1,4 @@
 -- Numbers as bytes, little-endian, and return counts in two's complement (document 01, "Saved image"). Definitions only; assumes nothing.
-use mathlib.Core.Bool.{Bool, true, false}
 use mathlib.Core.List.{List, [], _∷_, _++_}
 use Prim.Native.Nat.{ℕ, zero, suc, _+_, _-_, _*_, _/_, _%_}
 use lib.Dec.{ltb}

@@ -1,20 +1,20 @@
--- `etzvanul::etzvanul_check` hands back the reader's answer. Assumes nothing.
-use mathlib.Core.Path.{ap}
+-- `etzvanul::etzvanul_check` hands back the reader's answer, which the check gives without a table. Assumes nothing.
+use mathlib.Core.Path.{sym, _∙_}
 use borrow.Author.Needs.{needs}
-use Rattle.image.specs.declared.Loaded.{Loaded}
+use Rattle.image.specs.CheckLaws.{answer-check}
 use Rattle.etzvanul.specs.HostCall.{checkNumber}
 use Rattle.etzvanul.proofs.etzvanul_check.Statement.{statement}
 use Rattle.etzvanul.proofs.etzvanul_check.Tie as tie
 
-read-requires : tie.Need-read-requires
-read-requires c κs = search needs
+check-requires : tie.Need-check-requires
+check-requires c κs = search needs
 
 cast-result : tie.Need-cast-result
 cast-result c = search needs
 
 returns : tie.Need-returns
 unfolding checkNumber
-returns c = ap (λ (l : Loaded). l .answer) (c .before .read .ensures)
+returns c = c .check .ensures ∙ sym (answer-check (c .before .before .args .image .now))
 
 pub etzvanul-check-spec : {M : Type 1} → statement M
-etzvanul-check-spec = tie.close (tie.spec read-requires cast-result returns)
+etzvanul-check-spec = tie.close (tie.spec check-requires cast-result returns)

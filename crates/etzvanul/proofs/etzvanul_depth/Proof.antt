@@ -1,29 +1,28 @@
--- `etzvanul::etzvanul_depth` hands back the reader's refusal, or the table's report. Assumes nothing.
+-- `etzvanul::etzvanul_depth` hands back the reader's refusal, or the report of the table that the image tells of. Assumes nothing.
 use mathlib.Core.Path.{sym, ap, _∙_}
 use Prim.Native.Nat.{ℕ, _*_}
 use borrow.Author.Needs.{needs}
-use Rattle.image.specs.declared.Loaded.{Loaded}
-use Rattle.table.specs.declared.Table.{Table}
-use Rattle.table.specs.Depth.{depthReport}
+use Rattle.image.specs.CheckLaws.{answer-check}
+use Rattle.image.specs.Reader.{read}
 use Rattle.etzvanul.specs.CallLaws.{depth-not, depth-told}
+use Rattle.etzvanul.proofs.Slices.{slice-told}
 use Rattle.etzvanul.proofs.etzvanul_depth.Statement.{statement}
 use Rattle.etzvanul.proofs.etzvanul_depth.Tie as tie
 
-read-requires : tie.Need-read-requires
-read-requires c κs = search needs
+check-requires : tie.Need-check-requires
+check-requires c κs = search needs
 
 cast-result : tie.Need-cast-result
 cast-result c = search needs
 
 returns : tie.Need-returns
 returns c =
-    let l = c .before .before .before in
-    let a = l .before .before .args in
-    let is = ap (λ (x : Loaded). x .answer) (l .read .ensures) in
-    is ∙ depth-not (a .image .now) (a .node) (a .object) (λ ok. c .before .if1 .taken (is ∙ ok))
+    let a = c .before .before .before .args in
+    let is = c .before .check .ensures ∙ sym (answer-check (a .image .now)) in
+    is ∙ depth-not (a .image .now) (a .node) (a .object) (λ ok. c .if1 .taken (is ∙ ok))
 
-depth-report-requires : tie.Need-depth-report-requires
-depth-report-requires c κs = search needs
+depth-in-requires : tie.Need-depth-in-requires
+depth-in-requires c κs = search needs
 
 cast-result-2 : tie.Need-cast-result-2
 cast-result-2 c = search needs
@@ -33,20 +32,12 @@ mul-result c = search needs
 
 returns-2 : tie.Need-returns-2
 returns-2 c =
-    let l = c .before .before .before .before in
+    let l = c .before .before in
     let a = l .before .before .args in
-    let good = sym (ap (λ (x : Loaded). x .answer) (l .read .ensures)) ∙ c .before .before .if1 .left in
-    let report = c .depth-report .ensures ∙ ap (λ (x : Loaded). depthReport (x .table) (a .node) (a .object)) (l .read .ensures) in
-    ap (λ (d : ℕ). 256 * d) report ∙ depth-told (a .image .now) (a .node) (a .object) good
+    let accepted = answer-check (a .image .now) ∙ sym (l .check .ensures) ∙ c .before .if1 .left in
+    let told = slice-told (a .image .now) (l .before .shared-slice-known .given) accepted in
+    ap (λ (d : ℕ). 256 * d) (c .depth-in .ensures (read (a .image .now) .table) told) ∙ depth-told (a .image .now) (a .node) (a .object) accepted
 
 pub etzvanul-depth-spec : {M : Type 1} → statement M
 etzvanul-depth-spec =
-    tie.close
-    (tie.spec
-    read-requires
-    cast-result
-    returns
-    depth-report-requires
-    cast-result-2
-    mul-result
-    returns-2)
+    tie.close (tie.spec check-requires cast-result returns depth-in-requires cast-result-2 mul-result returns-2)

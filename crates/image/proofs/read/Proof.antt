@@ -6,7 +6,7 @@ use mathlib.Core.List.{List}
 use Prim.Native.Nat.{ℕ, _+_, _-_, _≤_, _<_}
 use native.Mathlib.Omega.{arith}
 use borrow.Author.Needs.{needs}
-use lib.ListN.{length, take, drop, length-drop}
+use lib.ListN.{length, take, drop}
 use Rattle.terms.specs.Bytes.{numberOf}
 use Rattle.table.specs.declared.Cell.{Cell}
 use Rattle.table.specs.declared.Place.{Place}
@@ -18,8 +18,8 @@ use Rattle.image.specs.Content.{liveObject, rootsOfNode, referenceMessag
 use Rattle.image.specs.Front.{frontOf, cellWithDirectory, cellWithRemote}
 use Rattle.image.specs.Reader.{refusedRead, read, payload}
 use Rattle.image.specs.Records.{HEAD, isUnknown, lengthOf}
-use Rattle.image.proofs.Fronting.{Good, Bad, good-front, bad-front, front-within}
-use Rattle.image.proofs.Reading.{Reading, rest-is, at-first, stopped, ended, falls}
+use Rattle.image.proofs.Fronting.{Good, Bad, good-front, bad-front}
+use Rattle.image.proofs.Reading.{Reading, rest-is, found, inside, at-first, stopped, ended, falls}
 use Rattle.image.proofs.Reading.{live-key, roots-key, directory-key, remote-key, reference-key, decrement-key}
 use Rattle.image.proofs.Reading.{put-count, put-live, put-roots, put-directory, put-remote, put-reference, put-decrement}
 use Rattle.image.proofs.read.Statement.{statement}
@@ -55,16 +55,16 @@ abbrev cell : At → Cell
 cell c = cellAt (c .before .before .loop2 .table) (c .front-of .result .key)
 
 -- the record that was found is the one at the front of what is left
-found : (c : At) → c .front-of .result ≡ frontOf (now c) (left c)
-found c = c .front-of .ensures ∙ ap (frontOf (now c)) (rest-is (all c) (c .before .before .loop2 .at))
+front : (c : At) → c .front-of .result ≡ frontOf (now c) (left c)
+front c = found (all c) (c .before .before .loop2 .at) (now c) (c .front-of .result) (c .front-of .ensures)
 
 -- it is of this kind, and may be taken
 taken : (c : At) (k : RecordKind) → isUnknown k ≡ false → c .front-of .result .kind ≡ k → Good (now c) (left c) k (c .front-of .result)
-taken c k known e = good-front (now c) (left c) (c .front-of .result) (found c) k known e
+taken c k known e = good-front (now c) (left c) (c .front-of .result) (front c) k known e
 
 -- or it is refused
 bad : (c : At) → c .front-of .result .kind ≡ Unknown → Bad (now c) (left c) (c .front-of .result)
-bad c e = bad-front (now c) (left c) (c .front-of .result) (found c) e
+bad c e = bad-front (now c) (left c) (c .front-of .result) (front c) e
 
 -- fewer bytes are left behind it
 less : (c : At) {k : RecordKind} → Good (now c) (left c) k (c .front-of .result)
@@ -116,9 +116,9 @@ front-of-requires c κs = search needs
 add-at : tie.Need-add-at Inv-loop2 μ-loop2 Inv-loop μ-loop
 add-at c =
     let w = c .before .before in
-    let inside = front-within (now w) (left w) (w .front-of .result) (found w) in
     let start = w .before .before .before .before .before .before .before .before in
-    omega (arith, inside, length-drop (w .before .before .loop2 .at) (all w), w .before .before .loop2 .inv .within, start .good)
+    let loop = w .before .before .loop2 in
+    omega (arith, inside (all w) (loop .at) (now w) (w .front-of .result) (loop .inv .within) (front w), start .good)
 
 enum-told : tie.Need-enum-told Inv-loop2 μ-loop2 Inv-loop μ-loop
 enum-told c = search needs

@@ -1,4 +1,5 @@
--- `run::tell` tells the whole run. The loop's invariant: what the records that are left will tell, behind what is written, is the run. Assumes nothing.
+-- `run::tell` tells the whole run. The loop's invariant: what the records that are left will tell, behind what is written, is the run.
+-- Assumes nothing.
 use mathlib.Core.Path.{sym, ap, _∙_}
 use Prim.Native.Nat.{_-_}
 use native.Mathlib.Omega.{arith}
@@ -47,13 +48,19 @@ add-put-line : tie.Need-add-put-line Inv-loop μ-loop
 add-put-line c = omega arith
 
 put-line-requires : tie.Need-put-line-requires Inv-loop μ-loop
-put-line-requires c κs = let h = c .before .before .before .before .before .before .before .before .before .before in omega (arith, h .loop .inv, h .before .before .before .before .pre)
+put-line-requires c κs =
+    let h = c .before .before .before .before .before .before .before .before .before .before in
+    omega (arith, h .loop .inv, h .before .before .before .before .pre)
 
 after-requires : tie.Need-after-requires Inv-loop μ-loop
-after-requires c κs = let t = c .before .before .before .before .before .before .before .before .before .before .before in omega (arith, t .if1 .taken, t .before .before .loop .inv)
+after-requires c κs =
+    let t = c .before .before .before .before .before .before .before .before .before .before .before in
+    omega (arith, t .if1 .taken, t .before .before .loop .inv)
 
 add-from : tie.Need-add-from Inv-loop μ-loop
-add-from c = let h = c .before .before .before .before .before .before .before .before .before .before .before .before .before .before in omega (arith, h .loop .inv .read, h .before .before .before .before .good)
+add-from c =
+    let h = c .before .before .before .before .before .before .before .before .before .before .before .before .before .before in
+    omega (arith, h .loop .inv .read, h .before .before .before .before .good)
 
 loop-less : tie.Need-loop-less Inv-loop μ-loop
 loop-less c = omega (arith, ap (λ (q : Progress). q .records) (c .after .ensures))
@@ -65,8 +72,9 @@ loop-again c =
     let f = o .before .before .before in
     let n = f .before .before in
     let t = n .before in
-    rw (c .after .ensures, o .step .ensures)
-    (ahead-more (t .before .before .loop .inv) _ (t .if1 .taken) (sym (n .next-at .ensures) ∙ f .front .given .1) (rw (o .step .ensures) at (w .put-line .ensures .0)) (w .put-line .ensures .1))
+    let found = sym (n .next-at .ensures) ∙ f .front .given .1 in
+    let written = rw (o .step .ensures) at (w .put-line .ensures .0) in
+    rw (c .after .ensures, o .step .ensures) (ahead-more (t .before .before .loop .inv) _ (t .if1 .taken) found written (w .put-line .ensures .1))
 
 next-at-requires-2 : tie.Need-next-at-requires-2 Inv-loop μ-loop
 next-at-requires-2 c κs = omega arith

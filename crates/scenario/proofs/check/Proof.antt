@@ -47,7 +47,8 @@ returns : tie.Need-returns Inv-loop μ-loop
 returns c =
     let r = c .before .before in
     let h = r .before .before .before .before in
-    let bad = first-bad (r .before .before .line-end .ensures .lines) (r .read-line .ensures) (h .loop .number) (sym (c .before .is-bad .ensures) ∙ c .if1 .taken) in
+    let lines = r .before .before .line-end .ensures .lines in
+    let bad = first-bad lines (r .read-line .ensures) (h .loop .number) (sym (c .before .is-bad .ensures) ∙ c .if1 .taken) in
     record { line = sym (h .loop .inv .3 ∙ bad); count = λ none. absurd (omega arith) }
 
 events-requires : tie.Need-events-requires Inv-loop μ-loop
@@ -69,8 +70,9 @@ loop-again : tie.Need-loop-again Inv-loop μ-loop
 loop-again c =
     let r = c .before .before .before in
     let h = r .before .before .before .before in
-    let good = first-good (r .before .before .line-end .ensures .lines) (r .read-line .ensures) (h .loop .number) (sym (c .before .before .is-bad .ensures) ∙ c .before .if1 .left) in
-    let more = first-count (r .before .before .line-end .ensures .lines) (r .read-line .ensures) in
+    let lines = r .before .before .line-end .ensures .lines in
+    let good = first-good lines (r .read-line .ensures) (h .loop .number) (sym (c .before .before .is-bad .ensures) ∙ c .before .if1 .left) in
+    let more = first-count lines (r .read-line .ensures) in
     let one = one-event (r .read-line .result) in
     (omega arith, omega arith, omega arith, h .loop .inv .3 ∙ good, omega (arith, more, h .loop .inv .4, c .events .ensures))
 

@@ -60,10 +60,11 @@ loop-again c =
     let r = p .before .before in
     let h = r .before .before .before .before in
     let split = first-records (r .before .before .line-end .ensures .lines) (r .read-line .ensures) in
-    let more = first-size (r .before .before .line-end .ensures .lines) (r .read-line .ensures) in (
+    let more = first-size (r .before .before .line-end .ensures .lines) (r .read-line .ensures) in
+    let whole = rw split at (h .loop .inv .2) in (
       p .put-line .kept .0 ∙ h .loop .inv .0,
       omega (arith, more, h .loop .inv .1, p .put-line .ensures .0),
-      stored-more (h .loop .out) (recordsIn (r .read-line .result)) _ (h .loop .to) (rw split at (h .loop .inv .2)) (p .put-line .ensures .1) (p .put-line .ensures .0),
+      stored-more (h .loop .out) (recordsIn (r .read-line .result)) _ (h .loop .to) whole (p .put-line .ensures .1) (p .put-line .ensures .0),
     )
 
 same-length : tie.Need-same-length Inv-loop μ-loop

@@ -2,7 +2,7 @@
 use borrow.Author.Needs.{needs}
 use mathlib.Core.Path.{refl, sym, _∙_}
 use borrow.Author.Tests.{not-true, not-false}
-use Rattle.terms.specs.CountedLaws.{and-passes}
+use Rattle.terms.specs.ChooseLaws.{and-passes}
 use Rattle.entry.specs.Acts.{directoryCameHome}
 use Rattle.entry.proofs.Directory.came_home.Statement.{statement}
 use Rattle.entry.proofs.Directory.came_home.Tie as tie

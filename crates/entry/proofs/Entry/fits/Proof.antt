@@ -31,7 +31,11 @@ returns-2 c = simp (c .before .before .self2 .given .1, sym (c .before .before .
 
 returns-3 : tie.Need-returns-3
 unfolding fitsEntry
-returns-3 c = simp (c .before .before .before .self2 .given .1, sym (c .before .before .before .before .before .is-owner .ensures) ∙ c .before .if2 .left, eq-eqb _ _ (c .if3 .taken))
+returns-3 c = simp (
+  c .before .before .before .self2 .given .1,
+  sym (c .before .before .before .before .before .is-owner .ensures) ∙ c .before .if2 .left,
+  eq-eqb _ _ (c .if3 .taken),
+)
 
 fits-requires-2 : tie.Need-fits-requires-2
 fits-requires-2 c κs = search needs
@@ -42,11 +46,20 @@ returns-4 c = simp (c .enum-told .given .1)
 
 returns-5 : tie.Need-returns-5
 unfolding fitsEntry
-returns-5 c = simp (c .before .before .before .self .given .1, sym (c .before .before .before .before .before .is-owner .ensures) ∙ not-false _ (c .before .if1 .left), c .fits2 .ensures)
+returns-5 c = simp (
+  c .before .before .before .self .given .1,
+  sym (c .before .before .before .before .before .is-owner .ensures) ∙ not-false _ (c .before .if1 .left),
+  c .fits2 .ensures,
+)
 
 returns-6 : tie.Need-returns-6
 unfolding fitsEntry
-returns-6 c = simp (c .before .before .before .before .self2 .given .1, sym (c .before .before .before .before .before .before .is-owner .ensures) ∙ c .before .before .if2 .left, ne-eqb _ _ (c .before .if3 .left), c .fits3 .ensures)
+returns-6 c = simp (
+  c .before .before .before .before .self2 .given .1,
+  sym (c .before .before .before .before .before .before .is-owner .ensures) ∙ c .before .before .if2 .left,
+  ne-eqb _ _ (c .before .if3 .left),
+  c .fits3 .ensures,
+)
 
 pub fits-spec : {M : Type 1} → statement M
 fits-spec =

@@ -20,7 +20,12 @@ of-remote-requires c κs = search needs
 
 returns-2 : tie.Need-returns-2
 unfolding holderSent
-returns-2 c = simp (not-false (c .before .before .before .before .args .e .presence) (c .before .before .before .if1 .left), c .before .before .if2 .taken, c .before .sent-home .ensures, c .of-remote .ensures)
+returns-2 c = simp (
+  not-false (c .before .before .before .before .args .e .presence) (c .before .before .before .if1 .left),
+  c .before .before .if2 .taken,
+  c .before .sent-home .ensures,
+  c .of-remote .ensures,
+)
 
 sent-requires : tie.Need-sent-requires
 sent-requires c κs = search needs
@@ -30,7 +35,12 @@ of-remote-requires-2 c κs = search needs
 
 returns-3 : tie.Need-returns-3
 unfolding holderSent
-returns-3 c = simp (not-false (c .before .before .before .before .args .e .presence) (c .before .before .before .if1 .left), c .before .before .if2 .left, c .before .sent .ensures, c .of-remote2 .ensures)
+returns-3 c = simp (
+  not-false (c .before .before .before .before .args .e .presence) (c .before .before .before .if1 .left),
+  c .before .before .if2 .left,
+  c .before .sent .ensures,
+  c .of-remote2 .ensures,
+)
 
 pub holder-sent-spec : {M : Type 1} → statement M
 holder-sent-spec =

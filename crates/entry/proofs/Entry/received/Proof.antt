@@ -16,7 +16,11 @@ torn-requires c κs = search needs
 
 returns : tie.Need-returns
 unfolding received
-returns c = simp (c .before .before .before .enum-told .given .1, sym (c .before .before .is-owner .ensures) ∙ c .before .if1 .taken, c .torn .ensures)
+returns c = simp (
+  c .before .before .before .enum-told .given .1,
+  sym (c .before .before .is-owner .ensures) ∙ c .before .if1 .taken,
+  c .torn .ensures,
+)
 
 first-received-requires : tie.Need-first-received-requires
 first-received-requires c κs = search needs
@@ -44,7 +48,12 @@ of-remote-requires c κs = search needs
 
 returns-2 : tie.Need-returns-2
 unfolding received
-returns-2 c = simp (c .before .before .before .before .enum-told .given .1, sym (c .before .before .before .is-owner .ensures) ∙ c .before .before .if1 .left, c .before .first-received .ensures, c .done .ensures)
+returns-2 c = simp (
+  c .before .before .before .before .enum-told .given .1,
+  sym (c .before .before .before .is-owner .ensures) ∙ c .before .before .if1 .left,
+  c .before .first-received .ensures,
+  c .done .ensures,
+)
 
 returns-3 : tie.Need-returns-3
 unfolding received

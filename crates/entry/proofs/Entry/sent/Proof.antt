@@ -19,7 +19,12 @@ done-requires c κs = search needs
 
 returns : tie.Need-returns
 unfolding sent
-returns c = simp (c .before .before .before .before .enum-told .given .1, sym (c .before .before .before .is-owner .ensures) ∙ c .before .before .if1 .taken, c .before .first-sent .ensures, c .done .ensures)
+returns c = simp (
+  c .before .before .before .before .enum-told .given .1,
+  sym (c .before .before .before .is-owner .ensures) ∙ c .before .before .if1 .taken,
+  c .before .first-sent .ensures,
+  c .done .ensures,
+)
 
 torn-requires : tie.Need-torn-requires
 torn-requires c κs = search needs
@@ -44,7 +49,11 @@ holder-sent-requires c κs = search needs
 
 returns-2 : tie.Need-returns-2
 unfolding sent
-returns-2 c = simp (c .before .before .before .enum-told .given .1, sym (c .before .before .is-owner .ensures) ∙ c .before .if1 .left, c .torn .ensures)
+returns-2 c = simp (
+  c .before .before .before .enum-told .given .1,
+  sym (c .before .before .is-owner .ensures) ∙ c .before .if1 .left,
+  c .torn .ensures,
+)
 
 returns-3 : tie.Need-returns-3
 unfolding sent

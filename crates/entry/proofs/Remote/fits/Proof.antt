@@ -19,14 +19,23 @@ fits-requires c κs = search needs
 
 returns-3 : tie.Need-returns-3
 unfolding fitsRemote
-returns-3 c = simp (le-leb _ _ (c .before .before .before .before .if1 .left), lt-ltb _ _ (c .before .before .before .if2 .left), sym (c .before .fits2 .ensures) ∙ not-true _ (c .if3 .taken))
+returns-3 c = simp (
+  le-leb _ _ (c .before .before .before .before .if1 .left),
+  lt-ltb _ _ (c .before .before .before .if2 .left),
+  sym (c .before .fits2 .ensures) ∙ not-true _ (c .if3 .taken),
+)
 
 fits-requires-2 : tie.Need-fits-requires-2
 fits-requires-2 c κs = search needs
 
 returns-4 : tie.Need-returns-4
 unfolding fitsRemote
-returns-4 c = simp (le-leb _ _ (c .before .before .before .before .before .before .if1 .left), lt-ltb _ _ (c .before .before .before .before .before .if2 .left), sym (c .before .before .before .fits2 .ensures) ∙ not-false _ (c .before .before .if3 .left), c .fits3 .ensures)
+returns-4 c = simp (
+  le-leb _ _ (c .before .before .before .before .before .before .if1 .left),
+  lt-ltb _ _ (c .before .before .before .before .before .if2 .left),
+  sym (c .before .before .before .fits2 .ensures) ∙ not-false _ (c .before .before .if3 .left),
+  c .fits3 .ensures,
+)
 
 pub fits-spec : {M : Type 1} → statement M
 fits-spec =

@@ -2,7 +2,7 @@
 use borrow.Author.Needs.{needs}
 use mathlib.Core.Path.{sym, _∙_}
 use borrow.Author.Tests.{le-leb, lt-leb, not-true, not-false}
-use Rattle.terms.specs.CountedLaws.{and-passes}
+use Rattle.terms.specs.ChooseLaws.{and-passes}
 use Rattle.entry.specs.Acts.{remoteSettled}
 use Rattle.entry.proofs.Signed.{fits-wider}
 use Rattle.entry.proofs.Remote.settled.Statement.{statement}
@@ -24,15 +24,28 @@ takes-requires c κs = fits-wider (c .before .before .before .before .args .m) (
 
 returns-3 : tie.Need-returns-3
 unfolding remoteSettled
-returns-3 c = simp (le-leb _ _ (c .before .before .before .before .if1 .left), sym (c .before .before .before .fits2 .ensures) ∙ not-false _ (c .before .before .if2 .left), sym (c .before .takes .ensures) ∙ not-true _ (c .if3 .taken))
+returns-3 c = simp (
+  le-leb _ _ (c .before .before .before .before .if1 .left),
+  sym (c .before .before .before .fits2 .ensures) ∙ not-false _ (c .before .before .if2 .left),
+  sym (c .before .takes .ensures) ∙ not-true _ (c .if3 .taken),
+)
 
 both-requires : tie.Need-both-requires
 both-requires c κs =
-    (fits-wider (c .before .before .before .before .before .before .args .self .«msg_ctr») (and-passes _ _ .0 (sym (c .before .takes .ensures) ∙ not-false _ (c .if3 .left)) .0), fits-wider (c .before .before .before .before .before .before .args .m) (sym (c .before .before .before .fits2 .ensures) ∙ not-false _ (c .before .before .if2 .left)))
+    let s = c .before .before in
+    let a = s .before .before .before .before .args in (
+      fits-wider (a .self .«msg_ctr») (and-passes _ _ .0 (sym (c .before .takes .ensures) ∙ not-false _ (c .if3 .left)) .0),
+      fits-wider (a .m) (sym (s .before .fits2 .ensures) ∙ not-false _ (s .if2 .left)),
+    )
 
 returns-4 : tie.Need-returns-4
 unfolding remoteSettled
-returns-4 c = simp (le-leb _ _ (c .before .before .before .before .before .if1 .left), sym (c .before .before .before .before .fits2 .ensures) ∙ not-false _ (c .before .before .before .if2 .left), sym (c .before .before .takes .ensures) ∙ not-false _ (c .before .if3 .left), c .both .ensures)
+returns-4 c = simp (
+  le-leb _ _ (c .before .before .before .before .before .if1 .left),
+  sym (c .before .before .before .before .fits2 .ensures) ∙ not-false _ (c .before .before .before .if2 .left),
+  sym (c .before .before .takes .ensures) ∙ not-false _ (c .before .if3 .left),
+  c .both .ensures,
+)
 
 pub settled-spec : {M : Type 1} → statement M
 settled-spec =

@@ -13,13 +13,20 @@ returns : tie.Need-returns
 returns c = simp (sym (c .before .fits2 .ensures) ∙ not-true _ (c .if1 .taken))
 
 both-requires : tie.Need-both-requires
-both-requires c κs = (fits-wider (c .before .before .args .self) (sym (c .before .fits2 .ensures) ∙ not-false _ (c .if1 .left)), c .before .before .pre)
+both-requires c κs = (
+  fits-wider (c .before .before .args .self) (sym (c .before .fits2 .ensures) ∙ not-false _ (c .if1 .left)),
+  c .before .before .pre,
+)
 
 fits-requires-2 : tie.Need-fits-requires-2
 fits-requires-2 c κs = search needs
 
 returns-2 : tie.Need-returns-2
-returns-2 c = simp (sym (c .before .before .before .fits2 .ensures) ∙ not-false _ (c .before .before .if1 .left), c .before .both .ensures, c .fits3 .ensures)
+returns-2 c = simp (
+  sym (c .before .before .before .fits2 .ensures) ∙ not-false _ (c .before .before .if1 .left),
+  c .before .both .ensures,
+  c .fits3 .ensures,
+)
 
 pub takes-spec : {M : Type 1} → statement M
 takes-spec = tie.close (tie.spec fits-requires returns both-requires fits-requires-2 returns-2)

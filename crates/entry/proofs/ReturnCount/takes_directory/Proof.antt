@@ -18,7 +18,11 @@ fits-directory-requires-2 : tie.Need-fits-directory-requires-2
 fits-directory-requires-2 c κs = search needs
 
 returns-2 : tie.Need-returns-2
-returns-2 c = simp (sym (c .before .before .before .fits-directory .ensures) ∙ not-false _ (c .before .before .if1 .left), c .before .both .ensures, c .fits-directory2 .ensures)
+returns-2 c = simp (
+  sym (c .before .before .before .fits-directory .ensures) ∙ not-false _ (c .before .before .if1 .left),
+  c .before .both .ensures,
+  c .fits-directory2 .ensures,
+)
 
 pub takes-directory-spec : {M : Type 1} → statement M
 takes-directory-spec =

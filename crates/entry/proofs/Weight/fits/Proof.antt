@@ -1,6 +1,6 @@
 -- `entry::Weight::fits` is `fitsWeight`. Assumes nothing.
 use native.Mathlib.Omega.{arith}
-use borrow.Author.Tests.{lt-ltb, le-ltb}
+use borrow.Author.Tests.{lt-ltb}
 use Rattle.entry.proofs.Weight.fits.Statement.{statement}
 use Rattle.entry.proofs.Weight.fits.Tie as tie
 

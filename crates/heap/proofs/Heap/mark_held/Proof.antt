@@ -24,7 +24,8 @@ heldOf h m o = if isMarked m o then fieldsOf h o else []
 abbrev Inv-loop : tie.InvT-loop
 Inv-loop self holders more₀ o₀ more o =
     (o ≤ OBJECTS) ×
-    (mark everywhere (more₀ .seen) (heldBy self (holders .seen)) ≡ mark everywhere (more .seen) (gatherFrom o (OBJECTS - o) (heldOf self (holders .seen))))
+    (mark everywhere (more₀ .seen) (heldBy self (holders .seen))
+    ≡ mark everywhere (more .seen) (gatherFrom o (OBJECTS - o) (heldOf self (holders .seen))))
 
 abbrev μ-loop : tie.MeasureT-loop
 μ-loop self holders more₀ o₀ more o = OBJECTS - o

@@ -12,7 +12,8 @@ use Rattle.heap.proofs.Heap.objects_fit.Statement.{statement}
 use Rattle.heap.proofs.Heap.objects_fit.Tie as tie
 
 abbrev Inv-loop : tie.InvT-loop
-Inv-loop self o₀ o = (o ≤ OBJECTS) × (every OBJECTS (λ k. fitsObject (objectAt self k)) ≡ everyFrom o (OBJECTS - o) (λ k. fitsObject (objectAt self k)))
+Inv-loop self o₀ o =
+    (o ≤ OBJECTS) × (every OBJECTS (λ k. fitsObject (objectAt self k)) ≡ everyFrom o (OBJECTS - o) (λ k. fitsObject (objectAt self k)))
 
 abbrev μ-loop : tie.MeasureT-loop
 μ-loop self o₀ o = OBJECTS - o

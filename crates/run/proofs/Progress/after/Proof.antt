@@ -15,10 +15,16 @@ add-t7 : tie.Need-add-t7
 add-t7 c = search needs
 
 add-t8 : tie.Need-add-t8
-add-t8 c = let d = c .before .before .before in let s = d .before .before in omega (arith, s .pre, d .decrements-sent .ensures, sent-most (s .args .o .deed))
+add-t8 c =
+    let d = c .before .before .before in
+    let s = d .before .before in
+    omega (arith, s .pre, d .decrements-sent .ensures, sent-most (s .args .o .deed))
 
 add-t9 : tie.Need-add-t9
-add-t9 c = let d = c .before .before .before in let s = d .before .before .before in omega (arith, s .pre, d .decrements-saved .ensures, saved-most (s .args .o .deed))
+add-t9 c =
+    let d = c .before .before .before in
+    let s = d .before .before .before in
+    omega (arith, s .pre, d .decrements-saved .ensures, saved-most (s .args .o .deed))
 
 returns : tie.Need-returns
 returns c = let d = c .before .before .before in simp (d .decrements-saved .ensures, d .before .decrements-sent .ensures)

@@ -38,7 +38,10 @@ one-if-requires c κs = search needs
 add-n : tie.Need-add-n Inv-loop μ-loop
 add-n c =
     let h = c .before .before .before .before in
-    omega (arith, summed-small NODES _ 1 (λ k. one-most (stands (h .before .args .t) (h .before .args .o) k)) (h .loop .inv) (c .one-if .ensures ∙ ap (λ (b : Bool). one (not b)) (c .before .is-absent .ensures ∙ ap isAbsent (c .before .before .entry-at .ensures))), h .loop .inv .0)
+    let absent = c .before .is-absent .ensures ∙ ap isAbsent (c .before .before .entry-at .ensures) in
+    let new = c .one-if .ensures ∙ ap (λ (b : Bool). one (not b)) absent in
+    let standing = stands (h .before .args .t) (h .before .args .o) in
+    omega (arith, summed-small NODES _ 1 (λ k. one-most (standing k)) (h .loop .inv) new, h .loop .inv .0)
 
 add-p : tie.Need-add-p Inv-loop μ-loop
 add-p c = omega arith
@@ -49,7 +52,8 @@ loop-less c = omega arith
 loop-again : tie.Need-loop-again Inv-loop μ-loop
 loop-again c =
     let h = c .before .before .before .before in
-    summed-more NODES _ (h .loop .inv) (omega arith) (c .one-if .ensures ∙ ap (λ (b : Bool). one (not b)) (c .before .is-absent .ensures ∙ ap isAbsent (c .before .before .entry-at .ensures)))
+    let absent = c .before .is-absent .ensures ∙ ap isAbsent (c .before .before .entry-at .ensures) in
+    summed-more NODES _ (h .loop .inv) (omega arith) (c .one-if .ensures ∙ ap (λ (b : Bool). one (not b)) absent)
 
 returns : tie.Need-returns Inv-loop μ-loop
 returns c = summed-all NODES _ (c .before .loop .inv) (c .loop-test .left)

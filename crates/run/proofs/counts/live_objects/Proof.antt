@@ -33,7 +33,8 @@ one-if-requires c κs = search needs
 add-n : tie.Need-add-n Inv-loop μ-loop
 add-n c =
     let h = c .before .before .before in
-    omega (arith, summed-small OBJECTS _ 1 (λ k. one-most (isLive (h .before .args .h) k)) (h .loop .inv) (c .one-if .ensures ∙ ap one (c .before .is-live .ensures)), h .loop .inv .0)
+    let new = c .one-if .ensures ∙ ap one (c .before .is-live .ensures) in
+    omega (arith, summed-small OBJECTS _ 1 (λ k. one-most (isLive (h .before .args .h) k)) (h .loop .inv) new, h .loop .inv .0)
 
 add-o : tie.Need-add-o Inv-loop μ-loop
 add-o c = omega arith

@@ -37,7 +37,9 @@ one-if-requires c κs = search needs
 add-n : tie.Need-add-n Inv-loop μ-loop
 add-n c =
     let h = c .before .before .before .before in
-    omega (arith, summed-small PLACES _ 1 (λ k. one-most (holds (h .before .args .t) k)) (h .loop .inv) (c .one-if .ensures ∙ ap (λ (b : Bool). one (not b)) (c .before .is-empty .ensures ∙ ap isEmpty (c .before .before .message-at .ensures))), h .loop .inv .0)
+    let empty = c .before .is-empty .ensures ∙ ap isEmpty (c .before .before .message-at .ensures) in
+    let new = c .one-if .ensures ∙ ap (λ (b : Bool). one (not b)) empty in
+    omega (arith, summed-small PLACES _ 1 (λ k. one-most (holds (h .before .args .t) k)) (h .loop .inv) new, h .loop .inv .0)
 
 add-s : tie.Need-add-s Inv-loop μ-loop
 add-s c = omega arith
@@ -48,7 +50,8 @@ loop-less c = omega arith
 loop-again : tie.Need-loop-again Inv-loop μ-loop
 loop-again c =
     let h = c .before .before .before .before in
-    summed-more PLACES _ (h .loop .inv) (omega arith) (c .one-if .ensures ∙ ap (λ (b : Bool). one (not b)) (c .before .is-empty .ensures ∙ ap isEmpty (c .before .before .message-at .ensures)))
+    let empty = c .before .is-empty .ensures ∙ ap isEmpty (c .before .before .message-at .ensures) in
+    summed-more PLACES _ (h .loop .inv) (omega arith) (c .one-if .ensures ∙ ap (λ (b : Bool). one (not b)) empty)
 
 returns : tie.Need-returns Inv-loop μ-loop
 returns c = summed-all PLACES _ (c .before .loop .inv) (c .loop-test .left)

@@ -42,7 +42,11 @@ put-named-requires-4 c κs =
     let p3 = c .before .before .before .before in
     let p2 = p3 .before .before .before .before .before in
     let p1 = p2 .before .before .before .before .before in
-    room-front _ (room-rest (p3 .put-named3 .ensures) (room-rest (p2 .put-named2 .ensures) (room-rest (p1 .put-named .ensures) (p1 .before .before .before .before .pre))))
+    room-front _
+    (room-rest (p3 .put-named3 .ensures)
+    (room-rest (p2 .put-named2 .ensures)
+    (room-rest (p1 .put-named .ensures)
+    (p1 .before .before .before .before .pre))))
 
 slice-aggregate-put-named-5 : tie.Need-slice-aggregate-put-named-5
 slice-aggregate-put-named-5 c = search needs
@@ -54,7 +58,12 @@ put-named-requires-5 c κs =
     let p3 = p4 .before .before .before .before .before in
     let p2 = p3 .before .before .before .before .before in
     let p1 = p2 .before .before .before .before .before in
-    room-front _ (room-rest (p4 .put-named4 .ensures) (room-rest (p3 .put-named3 .ensures) (room-rest (p2 .put-named2 .ensures) (room-rest (p1 .put-named .ensures) (p1 .before .before .before .before .pre)))))
+    room-front _
+    (room-rest (p4 .put-named4 .ensures)
+    (room-rest (p3 .put-named3 .ensures)
+    (room-rest (p2 .put-named2 .ensures)
+    (room-rest (p1 .put-named .ensures)
+    (p1 .before .before .before .before .pre)))))
 
 slice-aggregate-put-named-6 : tie.Need-slice-aggregate-put-named-6
 slice-aggregate-put-named-6 c = search needs
@@ -67,7 +76,13 @@ put-named-requires-6 c κs =
     let p3 = p4 .before .before .before .before .before in
     let p2 = p3 .before .before .before .before .before in
     let p1 = p2 .before .before .before .before .before in
-    room-front _ (room-rest (p5 .put-named5 .ensures) (room-rest (p4 .put-named4 .ensures) (room-rest (p3 .put-named3 .ensures) (room-rest (p2 .put-named2 .ensures) (room-rest (p1 .put-named .ensures) (p1 .before .before .before .before .pre))))))
+    room-front _
+    (room-rest (p5 .put-named5 .ensures)
+    (room-rest (p4 .put-named4 .ensures)
+    (room-rest (p3 .put-named3 .ensures)
+    (room-rest (p2 .put-named2 .ensures)
+    (room-rest (p1 .put-named .ensures)
+    (p1 .before .before .before .before .pre))))))
 
 slice-aggregate-put-text : tie.Need-slice-aggregate-put-text
 slice-aggregate-put-text c = search needs
@@ -81,7 +96,14 @@ put-text-requires c κs =
     let p3 = p4 .before .before .before .before .before in
     let p2 = p3 .before .before .before .before .before in
     let p1 = p2 .before .before .before .before .before in
-    room-front _ (room-rest (p6 .put-named6 .ensures) (room-rest (p5 .put-named5 .ensures) (room-rest (p4 .put-named4 .ensures) (room-rest (p3 .put-named3 .ensures) (room-rest (p2 .put-named2 .ensures) (room-rest (p1 .put-named .ensures) (p1 .before .before .before .before .pre)))))))
+    room-front _
+    (room-rest (p6 .put-named6 .ensures)
+    (room-rest (p5 .put-named5 .ensures)
+    (room-rest (p4 .put-named4 .ensures)
+    (room-rest (p3 .put-named3 .ensures)
+    (room-rest (p2 .put-named2 .ensures)
+    (room-rest (p1 .put-named .ensures)
+    (p1 .before .before .before .before .pre)))))))
 
 same-length : tie.Need-same-length
 same-length c =
@@ -92,7 +114,13 @@ same-length c =
     let p3 = p4 .before .before .before .before .before in
     let p2 = p3 .before .before .before .before .before in
     let p1 = p2 .before .before .before .before .before in
-    p7 .put-text .kept .0 ∙ p6 .put-named6 .kept .0 ∙ p5 .put-named5 .kept .0 ∙ p4 .put-named4 .kept .0 ∙ p3 .put-named3 .kept .0 ∙ p2 .put-named2 .kept .0 ∙ p1 .put-named .kept .0
+    p7 .put-text .kept .0
+    ∙ p6 .put-named6 .kept .0
+    ∙ p5 .put-named5 .kept .0
+    ∙ p4 .put-named4 .kept .0
+    ∙ p3 .put-named3 .kept .0
+    ∙ p2 .put-named2 .kept .0
+    ∙ p1 .put-named .kept .0
 
 returns : tie.Need-returns
 unfolding lastLine
@@ -104,7 +132,13 @@ returns c =
     let p3 = p4 .before .before .before .before .before in
     let p2 = p3 .before .before .before .before .before in
     let p1 = p2 .before .before .before .before .before in
-    wrote-both (p1 .put-named .ensures) (wrote-both (p2 .put-named2 .ensures) (wrote-both (p3 .put-named3 .ensures) (wrote-both (p4 .put-named4 .ensures) (wrote-both (p5 .put-named5 .ensures) (wrote-both (p6 .put-named6 .ensures) (p7 .put-text .ensures))))))
+    wrote-both (p1 .put-named .ensures)
+    (wrote-both (p2 .put-named2 .ensures)
+    (wrote-both (p3 .put-named3 .ensures)
+    (wrote-both (p4 .put-named4 .ensures)
+    (wrote-both (p5 .put-named5 .ensures)
+    (wrote-both (p6 .put-named6 .ensures)
+    (p7 .put-text .ensures))))))
 
 pub put-last-line-spec : {M : Type 1} → statement M
 put-last-line-spec =

@@ -16,7 +16,8 @@ use Rattle.run.proofs.line.put_line.Tie as tie
 short : (c : tie.After-value) → let a = c .before .before .before .args in length (line (a .number) (a .e) (a .o)) ≤ LINE
 short c =
     let s = c .before .before .before in
-    line-most (s .args .number) (s .args .e) (s .args .o) (s .good .1 .1 .1 .0) (s .good .1 .1 .1 .1 .0) (s .pre .0) (omega (arith, c .value .ensures, c .value .ok))
+    line-most (s .args .number) (s .args .e) (s .args .o) (s .good .1 .1 .1 .0) (s .good .1 .1 .1 .1 .0)
+    (s .pre .0) (omega (arith, c .value .ensures, c .value .ok))
 
 whole : (c : tie.After-value) → let a = c .before .before .before .args in Room (a .out .now) (a .at) (line (a .number) (a .e) (a .o))
 whole c = record { fits = omega (arith, c .before .before .before .pre .1, short c) }
@@ -69,7 +70,11 @@ put-named-requires-3 c κs =
     let p3 = c .before .before .before .before .before in
     let p2 = p3 .before .before .before .before .before .before in
     let p1 = p2 .before .before .before .before .before .before in
-    room-front _ (room-rest (p3 .put-named2 .ensures) (room-rest (p2 .put-named .ensures) (room-rest (p1 .put-decimal .ensures) (whole (p1 .before .before)))))
+    room-front _
+    (room-rest (p3 .put-named2 .ensures)
+    (room-rest (p2 .put-named .ensures)
+    (room-rest (p1 .put-decimal .ensures)
+    (whole (p1 .before .before)))))
 
 slice-aggregate-put-named-4 : tie.Need-slice-aggregate-put-named-4
 slice-aggregate-put-named-4 c = search needs
@@ -84,7 +89,12 @@ put-named-requires-4 c κs =
     let p3 = p4 .before .before .before .before .before .before in
     let p2 = p3 .before .before .before .before .before .before in
     let p1 = p2 .before .before .before .before .before .before in
-    room-front _ (room-rest (p4 .put-named3 .ensures) (room-rest (p3 .put-named2 .ensures) (room-rest (p2 .put-named .ensures) (room-rest (p1 .put-decimal .ensures) (whole (p1 .before .before))))))
+    room-front _
+    (room-rest (p4 .put-named3 .ensures)
+    (room-rest (p3 .put-named2 .ensures)
+    (room-rest (p2 .put-named .ensures)
+    (room-rest (p1 .put-decimal .ensures)
+    (whole (p1 .before .before))))))
 
 slice-aggregate-put-named-5 : tie.Need-slice-aggregate-put-named-5
 slice-aggregate-put-named-5 c = search needs
@@ -100,7 +110,13 @@ put-named-requires-5 c κs =
     let p3 = p4 .before .before .before .before .before .before in
     let p2 = p3 .before .before .before .before .before .before in
     let p1 = p2 .before .before .before .before .before .before in
-    room-front _ (room-rest (p5 .put-named4 .ensures) (room-rest (p4 .put-named3 .ensures) (room-rest (p3 .put-named2 .ensures) (room-rest (p2 .put-named .ensures) (room-rest (p1 .put-decimal .ensures) (whole (p1 .before .before)))))))
+    room-front _
+    (room-rest (p5 .put-named4 .ensures)
+    (room-rest (p4 .put-named3 .ensures)
+    (room-rest (p3 .put-named2 .ensures)
+    (room-rest (p2 .put-named .ensures)
+    (room-rest (p1 .put-decimal .ensures)
+    (whole (p1 .before .before)))))))
 
 slice-aggregate-put-named-6 : tie.Need-slice-aggregate-put-named-6
 slice-aggregate-put-named-6 c = search needs
@@ -114,7 +130,14 @@ put-named-requires-6 c κs =
     let p3 = p4 .before .before .before .before .before .before in
     let p2 = p3 .before .before .before .before .before .before in
     let p1 = p2 .before .before .before .before .before .before in
-    room-front _ (room-rest (p6 .put-named5 .ensures) (room-rest (p5 .put-named4 .ensures) (room-rest (p4 .put-named3 .ensures) (room-rest (p3 .put-named2 .ensures) (room-rest (p2 .put-named .ensures) (room-rest (p1 .put-decimal .ensures) (whole (p1 .before .before))))))))
+    room-front _
+    (room-rest (p6 .put-named5 .ensures)
+    (room-rest (p5 .put-named4 .ensures)
+    (room-rest (p4 .put-named3 .ensures)
+    (room-rest (p3 .put-named2 .ensures)
+    (room-rest (p2 .put-named .ensures)
+    (room-rest (p1 .put-decimal .ensures)
+    (whole (p1 .before .before))))))))
 
 slice-aggregate-put-named-7 : tie.Need-slice-aggregate-put-named-7
 slice-aggregate-put-named-7 c = search needs
@@ -129,7 +152,16 @@ put-named-requires-7 c κs =
     let p3 = p4 .before .before .before .before .before .before in
     let p2 = p3 .before .before .before .before .before .before in
     let p1 = p2 .before .before .before .before .before .before in
-    rw (p1 .before .before .value .ensures) (room-front _ (room-rest (p7 .put-named6 .ensures) (room-rest (p6 .put-named5 .ensures) (room-rest (p5 .put-named4 .ensures) (room-rest (p4 .put-named3 .ensures) (room-rest (p3 .put-named2 .ensures) (room-rest (p2 .put-named .ensures) (room-rest (p1 .put-decimal .ensures) (whole (p1 .before .before))))))))))
+    rw (p1 .before .before .value .ensures)
+    (room-front _
+    (room-rest (p7 .put-named6 .ensures)
+    (room-rest (p6 .put-named5 .ensures)
+    (room-rest (p5 .put-named4 .ensures)
+    (room-rest (p4 .put-named3 .ensures)
+    (room-rest (p3 .put-named2 .ensures)
+    (room-rest (p2 .put-named .ensures)
+    (room-rest (p1 .put-decimal .ensures)
+    (whole (p1 .before .before))))))))))
 
 slice-aggregate-put-text : tie.Need-slice-aggregate-put-text
 slice-aggregate-put-text c = search needs
@@ -145,7 +177,16 @@ put-text-requires c κs =
     let p3 = p4 .before .before .before .before .before .before in
     let p2 = p3 .before .before .before .before .before .before in
     let p1 = p2 .before .before .before .before .before .before in
-    room-front _ (room-rest (rw (p1 .before .before .value .ensures) at (p8 .put-named7 .ensures)) (room-rest (p7 .put-named6 .ensures) (room-rest (p6 .put-named5 .ensures) (room-rest (p5 .put-named4 .ensures) (room-rest (p4 .put-named3 .ensures) (room-rest (p3 .put-named2 .ensures) (room-rest (p2 .put-named .ensures) (room-rest (p1 .put-decimal .ensures) (whole (p1 .before .before))))))))))
+    room-front _
+    (room-rest (rw (p1 .before .before .value .ensures) at (p8 .put-named7 .ensures))
+    (room-rest (p7 .put-named6 .ensures)
+    (room-rest (p6 .put-named5 .ensures)
+    (room-rest (p5 .put-named4 .ensures)
+    (room-rest (p4 .put-named3 .ensures)
+    (room-rest (p3 .put-named2 .ensures)
+    (room-rest (p2 .put-named .ensures)
+    (room-rest (p1 .put-decimal .ensures)
+    (whole (p1 .before .before))))))))))
 
 same-length : tie.Need-same-length
 same-length c =
@@ -158,7 +199,15 @@ same-length c =
     let p3 = p4 .before .before .before .before .before .before in
     let p2 = p3 .before .before .before .before .before .before in
     let p1 = p2 .before .before .before .before .before .before in
-    p9 .put-text .kept .0 ∙ p8 .put-named7 .kept .0 ∙ p7 .put-named6 .kept .0 ∙ p6 .put-named5 .kept .0 ∙ p5 .put-named4 .kept .0 ∙ p4 .put-named3 .kept .0 ∙ p3 .put-named2 .kept .0 ∙ p2 .put-named .kept .0 ∙ p1 .put-decimal .kept .0
+    p9 .put-text .kept .0
+    ∙ p8 .put-named7 .kept .0
+    ∙ p7 .put-named6 .kept .0
+    ∙ p6 .put-named5 .kept .0
+    ∙ p5 .put-named4 .kept .0
+    ∙ p4 .put-named3 .kept .0
+    ∙ p3 .put-named2 .kept .0
+    ∙ p2 .put-named .kept .0
+    ∙ p1 .put-decimal .kept .0
 
 returns : tie.Need-returns
 unfolding line
@@ -172,7 +221,15 @@ returns c =
     let p3 = p4 .before .before .before .before .before .before in
     let p2 = p3 .before .before .before .before .before .before in
     let p1 = p2 .before .before .before .before .before .before in
-    let w = wrote-both (p1 .put-decimal .ensures) (wrote-both (p2 .put-named .ensures) (wrote-both (p3 .put-named2 .ensures) (wrote-both (p4 .put-named3 .ensures) (wrote-both (p5 .put-named4 .ensures) (wrote-both (p6 .put-named5 .ensures) (wrote-both (p7 .put-named6 .ensures) (wrote-both (rw (p1 .before .before .value .ensures) at (p8 .put-named7 .ensures)) (p9 .put-text .ensures)))))))) in
+    let w = wrote-both (p1 .put-decimal .ensures)
+    (wrote-both (p2 .put-named .ensures)
+    (wrote-both (p3 .put-named2 .ensures)
+    (wrote-both (p4 .put-named3 .ensures)
+    (wrote-both (p5 .put-named4 .ensures)
+    (wrote-both (p6 .put-named5 .ensures)
+    (wrote-both (p7 .put-named6 .ensures)
+    (wrote-both (rw (p1 .before .before .value .ensures) at (p8 .put-named7 .ensures))
+    (p9 .put-text .ensures)))))))) in
     (w, omega (arith, w .place, short (p1 .before .before)))
 
 pub put-line-spec : {M : Type 1} → statement M

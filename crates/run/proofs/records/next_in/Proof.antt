@@ -31,7 +31,11 @@ returns-4 : tie.Need-returns-4
 unfolding next
 returns-4 c =
     let s = c .before .before in
-    rw (ne-eqb _ _ (s .before .before .if1 .left), le-ltb _ _ (s .before .if2 .left), sym (s .is-stated .ensures) ∙ not-false _ (c .before .if3 .left))
+    rw (
+      ne-eqb _ _ (s .before .before .if1 .left),
+      le-ltb _ _ (s .before .if2 .left),
+      sym (s .is-stated .ensures) ∙ not-false _ (c .before .if3 .left),
+    )
     (ap Found (c .of-record .ensures))
 
 pub next-in-spec : {M : Type 1} → statement M

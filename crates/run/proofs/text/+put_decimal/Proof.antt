@@ -70,7 +70,10 @@ put-decimal-put-decimal-requires : (t : ℕ) → put-decimal-lts.Need-put-decima
   put-decimal-below t,
   put-decimal.Post,
 ) (put-decimal-at t) put-decimal.Post
-put-decimal-put-decimal-requires t c κs = let s = c .before .before .before in (omega arith, tenth-room (s .pre .1) (c .before .if1 .left) (omega arith))
+put-decimal-put-decimal-requires t c κs = let s = c .before .before .before in (
+  omega arith,
+  tenth-room (s .pre .1) (c .before .if1 .left) (omega arith),
+)
 
 put-decimal-digit-byte-requires-2 : (t : ℕ) → put-decimal-lts.Need-digit-byte-requires-2 (
   digit-byte-reads.Asked,

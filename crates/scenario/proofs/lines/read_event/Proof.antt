@@ -45,16 +45,20 @@ line-d c = line-c (to-c c)
 first : (c : tie.After-kind) → numberIn KIND-MOST (line c) ≡ found (c .kind .given .0 .0) (drop (c .kind .given .0 .1 .0) (line c))
 first c = told (line c) (c .before .before .number .ensures .0) (c .kind .given .1)
 
-second : (c : tie.After-a) → numberIn OPERAND-MOST (drop (to-kind c .kind .given .0 .1 .0) (line-a c)) ≡ found (c .a .given .0 .0) (drop (c .a .given .0 .1 .0) (line-a c))
+second : (c : tie.After-a) → numberIn OPERAND-MOST (drop (to-kind c .kind .given .0 .1 .0) (line-a c))
+    ≡ found (c .a .given .0 .0) (drop (c .a .given .0 .1 .0) (line-a c))
 second c = told (line-a c) (c .before .before .number2 .ensures .0) (c .a .given .1)
 
-third : (c : tie.After-b) → numberIn OPERAND-MOST (drop (to-a c .a .given .0 .1 .0) (line-b c)) ≡ found (c .b .given .0 .0) (drop (c .b .given .0 .1 .0) (line-b c))
+third : (c : tie.After-b) → numberIn OPERAND-MOST (drop (to-a c .a .given .0 .1 .0) (line-b c))
+    ≡ found (c .b .given .0 .0) (drop (c .b .given .0 .1 .0) (line-b c))
 third c = told (line-b c) (c .before .before .number3 .ensures .0) (c .b .given .1)
 
-fourth : (c : tie.After-c) → numberIn OPERAND-MOST (drop (to-b c .b .given .0 .1 .0) (line-c c)) ≡ found (c .c .given .0 .0) (drop (c .c .given .0 .1 .0) (line-c c))
+fourth : (c : tie.After-c) → numberIn OPERAND-MOST (drop (to-b c .b .given .0 .1 .0) (line-c c))
+    ≡ found (c .c .given .0 .0) (drop (c .c .given .0 .1 .0) (line-c c))
 fourth c = told (line-c c) (c .before .before .number4 .ensures .0) (c .c .given .1)
 
-fifth : (c : tie.After-d) → numberIn OPERAND-MOST (drop (to-c c .c .given .0 .1 .0) (line-d c)) ≡ found (c .d .given .0 .0) (drop (c .d .given .0 .1 .0) (line-d c))
+fifth : (c : tie.After-d) → numberIn OPERAND-MOST (drop (to-c c .c .given .0 .1 .0) (line-d c))
+    ≡ found (c .d .given .0 .0) (drop (c .d .given .0 .1 .0) (line-d c))
 fifth c = told (line-d c) (c .before .before .number5 .ensures .0) (c .d .given .1)
 
 number-requires : tie.Need-number-requires
@@ -128,7 +132,13 @@ returns-5 : tie.Need-returns-5
 unfolding eventIn
 returns-5 c =
     let p = c .before .before .before .before in
-    simp (first (to-kind (to-a (to-b p))), second (to-a (to-b p)), third (to-b p), fourth p, told (line-c p) (c .before .before .number5 .ensures .0) (c .enum-told5 .given .1))
+    simp (
+      first (to-kind (to-a (to-b p))),
+      second (to-a (to-b p)),
+      third (to-b p),
+      fourth p,
+      told (line-c p) (c .before .before .number5 .ensures .0) (c .enum-told5 .given .1),
+    )
 
 ends-requires : tie.Need-ends-requires
 ends-requires c κs = search needs
@@ -137,7 +147,14 @@ returns-6 : tie.Need-returns-6
 unfolding eventIn
 returns-6 c =
     let p = c .before .before .before in
-    simp (first (to-kind (to-a (to-b (to-c p)))), second (to-a (to-b (to-c p))), third (to-b (to-c p)), fourth (to-c p), fifth p, sym (c .before .ends .ensures) ∙ not-true _ (c .if1 .taken))
+    simp (
+      first (to-kind (to-a (to-b (to-c p)))),
+      second (to-a (to-b (to-c p))),
+      third (to-b (to-c p)),
+      fourth (to-c p),
+      fifth p,
+      sym (c .before .ends .ensures) ∙ not-true _ (c .if1 .taken),
+    )
 
 cast-t19 : tie.Need-cast-t19
 cast-t19 c =
@@ -163,7 +180,14 @@ returns-7 : tie.Need-returns-7
 unfolding eventIn
 returns-7 c =
     let p = c .before .before .before in
-    simp (first (to-kind (to-a (to-b (to-c p)))), second (to-a (to-b (to-c p))), third (to-b (to-c p)), fourth (to-c p), fifth p, sym (c .before .ends .ensures) ∙ not-false _ (c .if1 .left))
+    simp (
+      first (to-kind (to-a (to-b (to-c p)))),
+      second (to-a (to-b (to-c p))),
+      third (to-b (to-c p)),
+      fourth (to-c p),
+      fifth p,
+      sym (c .before .ends .ensures) ∙ not-false _ (c .if1 .left),
+    )
 
 pub read-event-spec : {M : Type 1} → statement M
 read-event-spec =

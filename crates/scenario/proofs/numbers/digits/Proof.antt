@@ -7,7 +7,7 @@ use borrow.Author.Needs.{needs}
 use borrow.Author.Tests.{not-true, not-false, leb-true}
 use lib.Dec.{leb}
 use lib.ListN.{length, getD, drop}
-use Rattle.terms.specs.CountedLaws.{and-passes}
+use Rattle.terms.specs.ChooseLaws.{and-passes}
 use Rattle.scenario.specs.Line.{isDigit, ZERO, NINE, digits}
 use Rattle.scenario.proofs.ByteLaws.{none-left, digits-more, digits-over, digits-end}
 use Rattle.scenario.proofs.numbers.digits.Statement.{statement}

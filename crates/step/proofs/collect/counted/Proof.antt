@@ -5,8 +5,8 @@ use Prim.Native.Nat.{ℕ, _+_, _*_, _-_, _≤_}
 use native.Mathlib.Omega.{arith}
 use lib.ListN.{replicate}
 use borrow.Author.Needs.{needs}
-use Rattle.terms.specs.CountedLaws.{Filled, filled-none, filled-set, filled-all}
 use Rattle.terms.specs.Limits.{OWNED}
+use Rattle.terms.specs.ListLaws.{Filled, filled-none, filled-set, filled-all}
 use Rattle.entry.specs.Entry.{isClear}
 use Rattle.table.specs.declared.Table.{Table}
 use Rattle.table.specs.Table.{entryAt}

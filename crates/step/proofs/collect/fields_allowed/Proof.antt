@@ -5,8 +5,9 @@ use native.Mathlib.Omega.{arith}
 use borrow.Author.Tests.{not-true, not-false}
 use borrow.Author.Needs.{needs}
 use Rattle.terms.specs.Counted.{all, everyFrom, listFrom}
-use Rattle.terms.specs.CountedLaws.{all-list, everyFrom-passes, everyFrom-fails, everyFrom-none}
+use Rattle.terms.specs.CountedLaws.{everyFrom-passes, everyFrom-fails, everyFrom-none}
 use Rattle.terms.specs.Limits.{FIELDS}
+use Rattle.terms.specs.ListLaws.{all-list}
 use Rattle.heap.specs.Heap.{fieldAt, fieldsOf}
 use Rattle.step.specs.CollectParts.{mayHoldBy}
 use Rattle.step.proofs.collect.fields_allowed.Statement.{statement}

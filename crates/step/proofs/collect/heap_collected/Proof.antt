@@ -10,8 +10,8 @@ use denote.Laws.{Is}
 use lib.ListN.{length, length-map}
 use borrow.Author.Needs.{needs}
 use Rattle.terms.specs.Choose.{if_then_else_}
-use Rattle.terms.specs.CountedLaws.{Filled, filled-none, filled-set, filled-keep, filled-all}
 use Rattle.terms.specs.Limits.{OBJECTS}
+use Rattle.terms.specs.ListLaws.{Filled, filled-none, filled-set, filled-keep, filled-all}
 use Rattle.heap.specs.declared.Object.{Object}
 use Rattle.heap.specs.declared.Roots.{Roots}
 use Rattle.heap.specs.declared.Heap.{Heap}

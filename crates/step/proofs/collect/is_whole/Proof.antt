@@ -2,7 +2,7 @@
 use mathlib.Core.Path.{sym, _∙_}
 use borrow.Author.Tests.{not-false, not-true}
 use borrow.Author.Needs.{needs}
-use Rattle.terms.specs.CountedLaws.{all-append}
+use Rattle.terms.specs.ListLaws.{all-append}
 use Rattle.step.proofs.collect.is_whole.Statement.{statement}
 use Rattle.step.proofs.collect.is_whole.Tie as tie
 

@@ -7,8 +7,9 @@ use borrow.Author.Tests.{not-true, not-false}
 use borrow.Author.Needs.{needs}
 use Rattle.terms.specs.Choose.{if_then_else_}
 use Rattle.terms.specs.Counted.{all, everyFrom}
-use Rattle.terms.specs.CountedLaws.{all-gather, everyFrom-passes, everyFrom-fails, everyFrom-none}
+use Rattle.terms.specs.CountedLaws.{everyFrom-passes, everyFrom-fails, everyFrom-none}
 use Rattle.terms.specs.Limits.{OBJECTS}
+use Rattle.terms.specs.ListLaws.{all-gather}
 use Rattle.heap.specs.Heap.{fieldsOf}
 use Rattle.heap.specs.Walk.{heldBy, isMarked}
 use Rattle.step.specs.CollectParts.{mayHoldBy}

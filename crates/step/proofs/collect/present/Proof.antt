@@ -5,8 +5,8 @@ use Prim.Native.Nat.{_-_, _≤_}
 use native.Mathlib.Omega.{arith}
 use lib.ListN.{replicate}
 use borrow.Author.Needs.{needs}
-use Rattle.terms.specs.CountedLaws.{Filled, filled-none, filled-set, filled-all}
 use Rattle.terms.specs.Limits.{OBJECTS}
+use Rattle.terms.specs.ListLaws.{Filled, filled-none, filled-set, filled-all}
 use Rattle.entry.specs.Entry.{isPresent}
 use Rattle.table.specs.Table.{entryAt}
 use Rattle.step.proofs.collect.present.Statement.{statement}

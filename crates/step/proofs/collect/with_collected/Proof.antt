@@ -7,15 +7,15 @@ use Prim.Native.Nat.{ℕ, _-_, _≤_}
 use native.Mathlib.Omega.{arith}
 use lib.ListN.{getD}
 use borrow.Author.Needs.{needs}
-use Rattle.terms.specs.CountedLaws.{Filled, filled-none, filled-set, filled-keep, filled-all}
 use Rattle.terms.specs.Limits.{OBJECTS}
+use Rattle.terms.specs.ListLaws.{Filled, filled-none, filled-set, filled-keep, filled-all}
 use Rattle.heap.specs.declared.Heap.{Heap}
 use Rattle.table.specs.declared.Cell.{Cell}
 use Rattle.table.specs.declared.Table.{Table}
 use Rattle.table.specs.Table.{cellAt, withCells, withHeap}
 use Rattle.table.proofs.Arrays.{cells}
 use Rattle.step.specs.Collect.{cellCollected, heapCollected, heldAt}
-use Rattle.step.proofs.CollectLaws.{cell-changes, cell-stays}
+use Rattle.step.specs.CollectLaws.{cell-changes, cell-stays}
 use Rattle.step.proofs.collect.with_collected.Statement.{statement}
 use Rattle.step.proofs.collect.with_collected.Tie as tie
 

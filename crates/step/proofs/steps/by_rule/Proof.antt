@@ -9,7 +9,7 @@ use Rattle.step.specs.Step.{ruleFor}
 use Rattle.step.specs.declared.Event.{Event}
 use Rattle.step.specs.declared.Kind.{Kind}
 use Rattle.step.specs.declared.Kind.the-variants.{New, Collect}
-use Rattle.terms.specs.CountedLaws.{and-passes}
+use Rattle.terms.specs.ChooseLaws.{and-passes}
 use Rattle.step.proofs.steps.by_rule.Statement.{statement}
 use Rattle.step.proofs.steps.by_rule.Tie as tie
 

@@ -22,7 +22,8 @@ use Rattle.table.proofs.Cell.+depth_by.{statement}
 use Rattle.table.proofs.Cell.+depth_by.Tie.{close}
 
 -- what was read from the cell stands in the table
-stands : (table : Table) (o p : ℕ) {c : Cell} {found entry : Entry} → cellAt table o ≡ c → found ≡ entryIn c p → found ≡ entry → entryAt table p o ≡ entry
+stands : (table : Table) (o p : ℕ) {c : Cell} {found entry : Entry} → cellAt table o ≡ c → found ≡ entryIn c p → found ≡ entry
+    → entryAt table p o ≡ entry
 stands table o p held read known = ap (λ (x : Cell). entryIn x p) held ∙ sym read ∙ known
 
 -- a table with the cell alone
@@ -59,7 +60,8 @@ depth-by-returns : (t : ℕ) → depth-by-lts.Need-returns (told t) (depth-by-at
 depth-by-returns t c = λ table o held.
     let way = c .before .before in
     let a = way .before .before .before .args in
-    sym (depthBy-last table o (a .p) (a .left) (way .entry .given .0 .0) (c .if1 .taken) (stands table o (a .p) held (way .before .before .entry-in .ensures) (way .entry .given .1)))
+    let there = stands table o (a .p) held (way .before .before .entry-in .ensures) (way .entry .given .1) in
+    sym (depthBy-last table o (a .p) (a .left) (way .entry .given .0 .0) (c .if1 .taken) there)
 
 depth-by-sub-depth-by : (t : ℕ) → depth-by-lts.Need-sub-depth-by (told t) (depth-by-at t) depth-by.Post
 depth-by-sub-depth-by t c = search needs

@@ -48,8 +48,10 @@ loop-less c = omega arith
 
 loop-again : tie.Need-loop-again Inv-loop μ-loop
 loop-again c =
-    let l = c .before .before .before .before .loop in
-    (omega arith, l .inv .1 ∙ everyFrom-passes (c .before .before .before .loop-test .taken) _ (sym (c .before .fits2 .ensures) ∙ not-false _ (c .if1 .left)))
+    let l = c .before .before .before .before .loop in (
+      omega arith,
+      l .inv .1 ∙ everyFrom-passes (c .before .before .before .loop-test .taken) _ (sym (c .before .fits2 .ensures) ∙ not-false _ (c .if1 .left)),
+    )
 
 returns-2 : tie.Need-returns-2 Inv-loop μ-loop
 returns-2 c = sym (c .before .loop .inv .1 ∙ everyFrom-none (c .loop-test .left) _)

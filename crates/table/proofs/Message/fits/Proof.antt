@@ -30,7 +30,11 @@ fits-requires c κs = search needs
 
 returns-2 : tie.Need-returns-2
 unfolding fitsMessage
-returns-2 c = simp (c .before .before .before .before .before .self2 .given .1, sym (c .before .before .before .fits-way2 .ensures) ∙ not-false _ (c .before .before .if1 .left), sym (c .before .fits2 .ensures) ∙ not-true _ (c .if2 .taken))
+returns-2 c = simp (
+  c .before .before .before .before .before .self2 .given .1,
+  sym (c .before .before .before .fits-way2 .ensures) ∙ not-false _ (c .before .before .if1 .left),
+  sym (c .before .fits2 .ensures) ∙ not-true _ (c .if2 .taken),
+)
 
 fits-requires-2 : tie.Need-fits-requires-2
 fits-requires-2 c κs = search needs
@@ -45,7 +49,12 @@ returns-4 c = simp (c .before .before .self .given .1, c .fits-way .ensures)
 
 returns-5 : tie.Need-returns-5
 unfolding fitsMessage
-returns-5 c = simp (c .before .before .before .before .before .before .self2 .given .1, sym (c .before .before .before .before .fits-way2 .ensures) ∙ not-false _ (c .before .before .before .if1 .left), sym (c .before .before .fits2 .ensures) ∙ not-false _ (c .before .if2 .left), c .fits3 .ensures)
+returns-5 c = simp (
+  c .before .before .before .before .before .before .self2 .given .1,
+  sym (c .before .before .before .before .fits-way2 .ensures) ∙ not-false _ (c .before .before .before .if1 .left),
+  sym (c .before .before .fits2 .ensures) ∙ not-false _ (c .before .if2 .left),
+  c .fits3 .ensures,
+)
 
 pub fits-spec : {M : Type 1} → statement M
 fits-spec =

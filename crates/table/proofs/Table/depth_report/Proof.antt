@@ -25,11 +25,21 @@ fits-requires c κs = search needs
 
 returns-3 : tie.Need-returns-3
 unfolding depthReport
-returns-3 c = simp (lt-ltb _ _ (c .before .before .before .before .before .if1 .left), lt-ltb _ _ (c .before .before .before .before .if2 .left), sym (c .before .fits2 .ensures) ∙ c .if3 .taken, c .before .before .number .ensures, c .before .before .before .depth .ensures)
+returns-3 c = simp (
+  lt-ltb _ _ (c .before .before .before .before .before .if1 .left),
+  lt-ltb _ _ (c .before .before .before .before .if2 .left),
+  sym (c .before .fits2 .ensures) ∙ c .if3 .taken,
+  c .before .before .number .ensures,
+  c .before .before .before .depth .ensures,
+)
 
 returns-4 : tie.Need-returns-4
 unfolding depthReport
-returns-4 c = simp (lt-ltb _ _ (c .before .before .before .before .before .if1 .left), lt-ltb _ _ (c .before .before .before .before .if2 .left), sym (c .before .fits2 .ensures) ∙ c .if3 .left)
+returns-4 c = simp (
+  lt-ltb _ _ (c .before .before .before .before .before .if1 .left),
+  lt-ltb _ _ (c .before .before .before .before .if2 .left),
+  sym (c .before .fits2 .ensures) ∙ c .if3 .left,
+)
 
 pub depth-report-spec : {M : Type 1} → statement M
 depth-report-spec =

@@ -113,8 +113,10 @@ loop2-less c = omega arith
 
 loop2-again : tie.Need-loop2-again Inv-loop μ-loop Inv-loop2 μ-loop2
 loop2-again c =
-    let l = c .before .before .before .before .loop2 in
-    (omega arith, l .inv .1 ∙ everyFrom-passes (c .before .before .before .loop2-test .taken) _ (sym (c .before .fits4 .ensures) ∙ not-false _ (c .if4 .left)))
+    let l = c .before .before .before .before .loop2 in (
+      omega arith,
+      l .inv .1 ∙ everyFrom-passes (c .before .before .before .loop2-test .taken) _ (sym (c .before .fits4 .ensures) ∙ not-false _ (c .if4 .left)),
+    )
 
 returns-5 : tie.Need-returns-5 Inv-loop μ-loop Inv-loop2 μ-loop2
 returns-5 c = sym (c .before .loop2 .inv .1 ∙ everyFrom-none (c .loop2-test .left) _)

@@ -1,0 +1,161 @@
+-- `etzvanul::amends::amend` meets its contract: the tests that any event meets, then COLLECT or another. Assumes nothing.
+use mathlib.Core.Path.{_≡_, refl, sym, ap, _∙_}
+use mathlib.Core.Logic.{_≢_}
+use mathlib.Core.Bool.{Bool, true, false, true≢false}
+use mathlib.Core.List.{List}
+use Prim.Native.Nat.{ℕ, _<_}
+use native.Mathlib.Omega.{arith}
+use lib.Dec.{eqb}
+use lib.ListN.{getD}
+use mir.Syntax.{w8}
+use mir.Val.{Fits}
+use borrow.Author.Needs.{needs}
+use borrow.Author.Tests.{ne-eqb, not-true, not-false}
+use Rattle.terms.specs.Choose.{if_then_else_}
+use Rattle.terms.specs.Limits.{EVENTS}
+use Rattle.terms.specs.Numbers.{ACCEPTED}
+use Rattle.image.specs.declared.Found.{Found}
+use Rattle.image.specs.Find.{countIn, foundFrom}
+use Rattle.image.specs.Reader.{read}
+use Rattle.splice.specs.Accepted.{count-told}
+use Rattle.step.specs.declared.Event.{Event}
+use Rattle.step.specs.declared.Kind.{Kind}
+use Rattle.step.specs.declared.Kind.the-variants.{New, Move, Clear, Load, Store, Send, Receive, Settle, Collect, Drop, Unknown}
+use Rattle.step.specs.Event.{COLLECT, fitsEvent, kindOf}
+use Rattle.etzvanul.specs.Amended.{Asked, unfit-back, ended-back}
+use Rattle.etzvanul.proofs.Slices.{are-bytes, slice-told}
+use Rattle.etzvanul.proofs.amends.amend.Statement.{statement}
+use Rattle.etzvanul.proofs.amends.amend.Tie as tie
+
+-- ---- only COLLECT's number is COLLECT's
+
+abbrev isCollect : Kind → Bool
+isCollect New = false
+isCollect Move = false
+isCollect Clear = false
+isCollect Load = false
+isCollect Store = false
+isCollect Send = false
+isCollect Receive = false
+isCollect Settle = false
+isCollect Collect = true
+isCollect Drop = false
+isCollect Unknown = false
+
+either : (b : Bool) (x k : Kind) → isCollect x ≡ false → isCollect k ≡ false → isCollect (if b then x else k) ≡ false
+either true x k first rest = first
+either false x k first rest = rest
+
+other-kind : (n : ℕ) → n ≢ COLLECT → kindOf n ≢ Collect
+unfolding kindOf
+other-kind n ne is =
+    let last : isCollect (if eqb n COLLECT then Collect else if eqb n 10 then Drop else Unknown) ≡ false =
+    rw (ne-eqb n COLLECT ne) (either (eqb n 10) Drop Unknown refl refl) in
+    let none : isCollect (kindOf n) ≡ false =
+    either (eqb n 1) New _ refl (either (eqb n 2) Move _ refl (either (eqb n 3) Clear _ refl (either (eqb n 4) Load _ refl
+    (either (eqb n 5) Store _ refl (either (eqb n 6) Send _ refl (either (eqb n 7) Receive _ refl (either (eqb n 8) Settle _ refl last))))))) in
+    true≢false (ap isCollect (sym is) ∙ none)
+
+-- ---- the event count
+
+counted : (l : List ℕ) → ((i : ℕ) → Fits w8 (getD l i 0)) → read l .answer ≡ ACCEPTED → (found : Found) → found ≡ foundFrom 0 0 l → (n : ℕ)
+    → n ≡ countIn (found .held) → n ≡ read l .table .count
+counted l each accepted found is n tells = tells ∙ ap (λ (f : Found). countIn (f .held)) is ∙ count-told l (are-bytes l each) accepted
+
+-- the tests are passed
+passed : (l : List ℕ) → ((i : ℕ) → Fits w8 (getD l i 0)) → read l .answer ≡ ACCEPTED → (e : Event) → fitsEvent e ≡ true
+    → (found : Found) → found ≡ foundFrom 0 0 l → (n : ℕ) → n ≡ countIn (found .held) → n < EVENTS → Asked l e n
+passed l each accepted e fits found is n tells more = record {
+  accepted = accepted;
+  fits = fits;
+  counted = counted l each accepted found is n tells;
+  more = more;
+}
+
+fits-requires : tie.Need-fits-requires
+fits-requires c κs = search needs
+
+cast-result : tie.Need-cast-result
+cast-result c = search needs
+
+returns : tie.Need-returns
+returns c =
+    let s = c .before .before .before .before in
+    let a = s .args in
+    let l = a .image .now in
+    let told = slice-told l (c .before .before .before .shared-slice-known .given) (s .pre) in
+    unfit-back l (a .e) (a .out .now) (s .pre) (told .fits) (sym (c .before .fits2 .ensures) ∙ not-true _ (c .if1 .taken))
+
+look-from-requires : tie.Need-look-from-requires
+look-from-requires c κs = search needs
+
+count-requires : tie.Need-count-requires
+count-requires c κs = search needs
+
+cast-result-2 : tie.Need-cast-result-2
+cast-result-2 c = search needs
+
+returns-2 : tie.Need-returns-2
+returns-2 c =
+    let f = c .before .before .before .before in
+    let s = f .before .before .before in
+    let a = s .args in
+    let l = a .image .now in
+    let each = f .before .before .shared-slice-known .given in
+    let told = slice-told l each (s .pre) in
+    let fits = sym (f .fits2 .ensures) ∙ not-false _ (c .before .before .before .if1 .left) in
+    let many = counted l each (s .pre) _ (c .before .before .look-from .ensures) _ (c .before .count .ensures) in
+    ended-back l (a .e) (a .out .now) (s .pre) (told .fits) fits (omega (arith, many, c .if2 .taken))
+
+collect-requires : tie.Need-collect-requires
+unfolding kindOf
+collect-requires c κs =
+    let n = c .before .before .before .before in
+    let f = n .before .before .before in
+    let s = f .before .before .before in
+    let each = f .before .before .shared-slice-known .given in
+    let fits = sym (f .fits2 .ensures) ∙ not-false _ (n .before .before .if1 .left) in
+    let more = c .before .before .before .if2 .left in
+    let asked = passed (s .args .image .now) each (s .pre) (s .args .e) fits _ (n .before .look-from .ensures) _ (n .count .ensures) more in
+    (asked, ap kindOf (c .before .if3 .taken))
+
+same-length : tie.Need-same-length
+same-length c = search needs
+
+returns-3 : tie.Need-returns-3
+returns-3 c = search needs
+
+change-requires : tie.Need-change-requires
+change-requires c κs =
+    let n = c .before .before .before .before in
+    let f = n .before .before .before in
+    let s = f .before .before .before in
+    let each = f .before .before .shared-slice-known .given in
+    let fits = sym (f .fits2 .ensures) ∙ not-false _ (n .before .before .if1 .left) in
+    let more = c .before .before .before .if2 .left in
+    let asked = passed (s .args .image .now) each (s .pre) (s .args .e) fits _ (n .before .look-from .ensures) _ (n .count .ensures) more in
+    (asked, other-kind (s .args .e .kind) (c .before .if3 .left))
+
+same-length-2 : tie.Need-same-length-2
+same-length-2 c = search needs
+
+returns-4 : tie.Need-returns-4
+returns-4 c = search needs
+
+pub amend-spec : {M : Type 1} → statement M
+amend-spec =
+    tie.close
+    (tie.spec
+    fits-requires
+    cast-result
+    returns
+    look-from-requires
+    count-requires
+    cast-result-2
+    returns-2
+    collect-requires
+    same-length
+    returns-3
+    change-requires
+    same-length-2
+    returns-4)

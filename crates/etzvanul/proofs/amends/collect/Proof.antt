@@ -1,0 +1,52 @@
+-- `etzvanul::amends::collect` makes the call that a COLLECT makes, and it is right for the table that the image tells of. Assumes nothing.
+use native.Mathlib.Omega.{arith}
+use borrow.Author.Needs.{needs}
+use Rattle.image.specs.Reader.{read}
+use Rattle.image.specs.RoundTrip.{accepted-size}
+use Rattle.etzvanul.specs.Amended.{collect-node, collect-orderly, collect-back}
+use Rattle.etzvanul.specs.Onward.{scannable}
+use Rattle.etzvanul.proofs.Slices.{are-bytes, slice-told}
+use Rattle.etzvanul.proofs.amends.collect.Statement.{statement}
+use Rattle.etzvanul.proofs.amends.collect.Tie as tie
+
+sweep-requires : tie.Need-sweep-requires
+sweep-requires c κs =
+    let s = c .before .before in
+    let a = s .args in
+    let l = a .image .now in
+    let asked = s .pre .0 in
+    let told = slice-told l (c .before .shared-slice-known .given) (asked .accepted) in
+    (collect-node l told (a .e) (a .count) asked (a .out .now) (s .pre .1), scannable l (read l .table) told)
+
+add-swept : tie.Need-add-swept
+add-swept c = omega (arith, c .before .before .before .pre .0 .more)
+
+swept-requires : tie.Need-swept-requires
+swept-requires c κs =
+    let s = c .before .before .before .before in
+    let a = s .args in
+    let l = a .image .now in
+    let each = c .before .before .before .shared-slice-known .given in
+    let asked = s .pre .0 in
+    let size = accepted-size l (are-bytes l each) (asked .accepted) in
+    let told = slice-told l each (asked .accepted) in
+    let orderly = collect-orderly l told (a .e) (a .count) asked (a .out .now) (s .pre .1) (c .before .sweep .result) (c .before .sweep .ensures) in
+    (collect-node l told (a .e) (a .count) asked (a .out .now) (s .pre .1), (omega (arith, size .1), orderly))
+
+same-length : tie.Need-same-length
+same-length c = search needs
+
+returns : tie.Need-returns
+returns c =
+    let p = c .before .before in
+    let w = p .before .before in
+    let s = w .before .before .before in
+    let a = s .args in
+    let l = a .image .now in
+    let asked = s .pre .0 in
+    let told = slice-told l (w .before .before .shared-slice-known .given) (asked .accepted) in
+    collect-back l told (a .e) (a .count) asked (a .out .now) (s .pre .1) (w .sweep .result) (w .sweep .ensures) _ _
+    (p .swept .ensures .0) (p .swept .ensures .1)
+
+pub collect-spec : {M : Type 1} → statement M
+collect-spec = tie.close (tie.spec sweep-requires add-swept swept-requires same-length returns)

@@ -1,0 +1,75 @@
+-- `etzvanul::depths::cell_in` meets its contract. The invariant: the entries below `p` are written. Assumes nothing.
+use mathlib.Core.Path.{refl}
+use mathlib.Core.List.{List}
+use Prim.Native.Nat.{ℕ, _-_, _≤_}
+use native.Mathlib.Omega.{arith}
+use lib.ListN.{replicate}
+use borrow.Author.Needs.{needs}
+use Rattle.terms.specs.Limits.{NODES}
+use Rattle.terms.specs.ListLaws.{Filled, filled-none, filled-set, filled-all}
+use Rattle.entry.specs.declared.Entry.the-variants.{Absent}
+use Rattle.table.specs.declared.Slot.{Slot}
+use Rattle.etzvanul.specs.Plan.{entryOf}
+use Rattle.etzvanul.proofs.depths.cell_in.Statement.{statement}
+use Rattle.etzvanul.proofs.depths.cell_in.Tie as tie
+
+abbrev nothing : Slot
+nothing = record { held = Absent }
+
+abbrev slotAt : List ℕ → ℕ → ℕ → Slot
+slotAt l o p = record { held = entryOf l p o }
+
+abbrev Inv-loop : tie.InvT-loop
+Inv-loop image o at₀ p₀ at p = (p ≤ NODES) × Filled nothing (slotAt image o) (replicate NODES nothing) p at
+
+abbrev μ-loop : tie.MeasureT-loop
+μ-loop image o at₀ p₀ at p = NODES - p
+
+loop-holds : tie.Need-loop-holds Inv-loop μ-loop
+loop-holds c = (omega arith, filled-none)
+
+entry-spot-requires : tie.Need-entry-spot-requires Inv-loop μ-loop
+entry-spot-requires c κs = search needs
+
+cast-k : tie.Need-cast-k Inv-loop μ-loop
+cast-k c = search needs
+
+entry-requires : tie.Need-entry-requires Inv-loop μ-loop
+entry-requires c κs = search needs
+
+mul-at : tie.Need-mul-at Inv-loop μ-loop
+mul-at c = search needs
+
+array-set-from-at : tie.Need-array-set-from-at Inv-loop μ-loop
+array-set-from-at c = search needs
+
+add-p : tie.Need-add-p Inv-loop μ-loop
+add-p c = omega arith
+
+loop-less : tie.Need-loop-less Inv-loop μ-loop
+loop-less c = omega arith
+
+loop-again : tie.Need-loop-again Inv-loop μ-loop
+loop-again c =
+    let l = c .before .before .before in
+    (omega arith, filled-set (l .loop .inv .1) _ (c .before .before .loop-test .taken) (rw (c .entry .ensures, c .before .entry-spot .ensures)))
+
+returns : tie.Need-returns Inv-loop μ-loop
+returns c = filled-all (c .before .loop .inv .1) NODES refl (c .loop-test .left)
+
+pub cell-in-spec : {M : Type 1} → statement M
+cell-in-spec =
+    tie.close
+    (tie.spec
+    Inv-loop
+    μ-loop
+    loop-holds
+    entry-spot-requires
+    cast-k
+    entry-requires
+    mul-at
+    array-set-from-at
+    add-p
+    loop-less
+    loop-again
+    returns)

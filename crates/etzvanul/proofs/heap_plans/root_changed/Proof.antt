@@ -1,0 +1,20 @@
+-- `etzvanul::heap_plans::root_changed` meets its contract. Assumes nothing.
+use borrow.Author.Needs.{needs}
+use Rattle.etzvanul.proofs.heap_plans.root_changed.Statement.{statement}
+use Rattle.etzvanul.proofs.heap_plans.root_changed.Tie as tie
+
+with-root-in-requires : tie.Need-with-root-in-requires
+with-root-in-requires c κs = search needs
+
+of-roots-requires : tie.Need-of-roots-requires
+of-roots-requires c κs = search needs
+
+replaced-requires : tie.Need-replaced-requires
+replaced-requires c κs = search needs
+
+returns : tie.Need-returns
+returns c = rw (c .replaced .ensures, c .before .of-roots .ensures, c .before .before .with-root-in .ensures)
+
+pub root-changed-spec : {M : Type 1} → statement M
+root-changed-spec =
+    tie.close (tie.spec with-root-in-requires of-roots-requires replaced-requires returns)

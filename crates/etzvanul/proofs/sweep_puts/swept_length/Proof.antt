@@ -1,0 +1,173 @@
+-- `etzvanul::sweep_puts::swept_length` gives the length of the new image, change by change. The invariants: the length so far and what is left of the
+-- changes make the whole, and no change makes it much longer. Assumes nothing.
+use mathlib.Core.Path.{_∙_}
+use Prim.Native.Nat.{_+_, _-_, _*_, _≤_}
+use native.Mathlib.Omega.{arith}
+use lib.ListN.{length}
+use Rattle.terms.specs.Limits.{OBJECTS, OWNED}
+use Rattle.image.specs.Stored.{FULL}
+use Rattle.etzvanul.specs.Orderly.{lengthAfter}
+use Rattle.etzvanul.proofs.Sweeping.{objectsLeft, directoriesLeft, entriesLeft}
+use Rattle.etzvanul.proofs.Sweeping.{object-next, objects-done, directory-next, directories-done, entry-next, entries-done}
+use Rattle.etzvanul.proofs.Sweeping.{Measured, cut-next, measured-on, measured-next, measured-all, sweep-measured, sweep-length}
+use Rattle.etzvanul.proofs.sweep_puts.swept_length.Statement.{statement}
+use Rattle.etzvanul.proofs.sweep_puts.swept_length.Tie as tie
+
+abbrev Inv-loop : tie.InvT-loop
+Inv-loop l p s n₀ i₀ n i =
+    (i ≤ OWNED) × Measured (length l) (lengthAfter (length l) (objectsLeft l p s 0)) (FULL + 20 * i) (objectsLeft l p s i) n
+
+abbrev μ-loop : tie.MeasureT-loop
+μ-loop l p s n₀ i₀ n i = OWNED - i
+
+abbrev Inv-loop2 : tie.InvT-loop2
+Inv-loop2 l p s n₀ i k₀ n k =
+    (k ≤ OWNED) × Measured (length l) (lengthAfter (length l) (objectsLeft l p s 0)) (FULL + 160 + 20 * k) (directoriesLeft l p s k) n
+
+abbrev μ-loop2 : tie.MeasureT-loop2
+μ-loop2 l p s n₀ i k₀ n k = OWNED - k
+
+abbrev Inv-loop3 : tie.InvT-loop3
+Inv-loop3 l p s n₀ i k o₀ n o =
+    (o ≤ OBJECTS) × Measured (length l) (lengthAfter (length l) (objectsLeft l p s 0)) (FULL + 320 + 20 * o) (entriesLeft l p s o) n
+
+abbrev μ-loop3 : tie.MeasureT-loop3
+μ-loop3 l p s n₀ i k o₀ n o = OBJECTS - o
+
+loop-holds : tie.Need-loop-holds Inv-loop μ-loop Inv-loop2 μ-loop2 Inv-loop3 μ-loop3
+loop-holds c =
+    let s = c .before in
+    (omega arith, sweep-measured (s .args .l .now) (s .args .p) (s .args .s) (s .pre .1))
+
+object-gone-requires :
+    tie.Need-object-gone-requires Inv-loop μ-loop Inv-loop2 μ-loop2 Inv-loop3 μ-loop3
+object-gone-requires c κs = (c .before .before .before .pre .0, c .loop-test .taken)
+
+length-with-requires :
+    tie.Need-length-with-requires Inv-loop μ-loop Inv-loop2 μ-loop2 Inv-loop3 μ-loop3
+length-with-requires c κs =
+    let e = c .before .before in
+    let a = e .before .before .args in
+    let lt = c .before .loop-test .taken in
+    let m = e .loop .inv .1 in
+    (omega (arith, m .lasting .small), cut-next m (object-next (a .l .now) (a .p) (a .s) (e .loop .i) lt) (c .object-gone .ensures))
+
+add-i : tie.Need-add-i Inv-loop μ-loop Inv-loop2 μ-loop2 Inv-loop3 μ-loop3
+add-i c = omega arith
+
+loop-less : tie.Need-loop-less Inv-loop μ-loop Inv-loop2 μ-loop2 Inv-loop3 μ-loop3
+loop-less c = omega arith
+
+loop-again : tie.Need-loop-again Inv-loop μ-loop Inv-loop2 μ-loop2 Inv-loop3 μ-loop3
+loop-again c =
+    let e = c .before .before .before in
+    let a = e .before .before .args in
+    let lt = c .before .before .loop-test .taken in
+    let first = object-next (a .l .now) (a .p) (a .s) (e .loop .i) lt in
+    (omega arith, measured-on (e .loop .inv .1) first (c .before .object-gone .ensures) (c .length-with .ensures) (omega arith))
+
+loop2-holds : tie.Need-loop2-holds Inv-loop μ-loop Inv-loop2 μ-loop2 Inv-loop3 μ-loop3
+loop2-holds c =
+    let e = c .before in
+    let a = e .before .before .args in
+    let none = objects-done (a .l .now) (a .p) (a .s) (e .loop .i) (c .loop-test .left) in
+    (omega arith, measured-next (e .loop .inv .1) none (omega arith))
+
+directory-gone-requires :
+    tie.Need-directory-gone-requires Inv-loop μ-loop Inv-loop2 μ-loop2 Inv-loop3 μ-loop3
+directory-gone-requires c κs = (c .before .before .before .before .before .pre .0, c .loop2-test .taken)
+
+length-with-requires-2 :
+    tie.Need-length-with-requires-2 Inv-loop μ-loop Inv-loop2 μ-loop2 Inv-loop3 μ-loop3
+length-with-requires-2 c κs =
+    let e = c .before .before in
+    let a = e .before .before .before .before .args in
+    let lt = c .before .loop2-test .taken in
+    let m = e .loop2 .inv .1 in
+    (omega (arith, m .lasting .small), cut-next m (directory-next (a .l .now) (a .p) (a .s) (e .loop2 .k) lt) (c .directory-gone .ensures))
+
+add-k : tie.Need-add-k Inv-loop μ-loop Inv-loop2 μ-loop2 Inv-loop3 μ-loop3
+add-k c = omega arith
+
+loop2-less : tie.Need-loop2-less Inv-loop μ-loop Inv-loop2 μ-loop2 Inv-loop3 μ-loop3
+loop2-less c = omega arith
+
+loop2-again : tie.Need-loop2-again Inv-loop μ-loop Inv-loop2 μ-loop2 Inv-loop3 μ-loop3
+loop2-again c =
+    let e = c .before .before .before in
+    let a = e .before .before .before .before .args in
+    let lt = c .before .before .loop2-test .taken in
+    let first = directory-next (a .l .now) (a .p) (a .s) (e .loop2 .k) lt in
+    (omega arith, measured-on (e .loop2 .inv .1) first (c .before .directory-gone .ensures) (c .length-with2 .ensures) (omega arith))
+
+loop3-holds : tie.Need-loop3-holds Inv-loop μ-loop Inv-loop2 μ-loop2 Inv-loop3 μ-loop3
+loop3-holds c =
+    let e = c .before in
+    let a = e .before .before .before .before .args in
+    let none = directories-done (a .l .now) (a .p) (a .s) (e .loop2 .k) (c .loop2-test .left) in
+    (omega arith, measured-next (e .loop2 .inv .1) none (omega arith))
+
+entry-unused-requires :
+    tie.Need-entry-unused-requires Inv-loop μ-loop Inv-loop2 μ-loop2 Inv-loop3 μ-loop3
+entry-unused-requires c κs = c .loop3-test .taken
+
+length-with-requires-3 :
+    tie.Need-length-with-requires-3 Inv-loop μ-loop Inv-loop2 μ-loop2 Inv-loop3 μ-loop3
+length-with-requires-3 c κs =
+    let e = c .before .before in
+    let a = e .before .before .before .before .before .before .args in
+    let lt = c .before .loop3-test .taken in
+    let m = e .loop3 .inv .1 in
+    (omega (arith, m .lasting .small), cut-next m (entry-next (a .l .now) (a .p) (a .s) (e .loop3 .o) lt) (c .entry-unused .ensures))
+
+add-o : tie.Need-add-o Inv-loop μ-loop Inv-loop2 μ-loop2 Inv-loop3 μ-loop3
+add-o c = omega arith
+
+loop3-less : tie.Need-loop3-less Inv-loop μ-loop Inv-loop2 μ-loop2 Inv-loop3 μ-loop3
+loop3-less c = omega arith
+
+loop3-again : tie.Need-loop3-again Inv-loop μ-loop Inv-loop2 μ-loop2 Inv-loop3 μ-loop3
+loop3-again c =
+    let e = c .before .before .before in
+    let a = e .before .before .before .before .before .before .args in
+    let lt = c .before .before .loop3-test .taken in
+    let first = entry-next (a .l .now) (a .p) (a .s) (e .loop3 .o) lt in
+    (omega arith, measured-on (e .loop3 .inv .1) first (c .before .entry-unused .ensures) (c .length-with3 .ensures) (omega arith))
+
+returns : tie.Need-returns Inv-loop μ-loop Inv-loop2 μ-loop2 Inv-loop3 μ-loop3
+returns c =
+    let e = c .before in
+    let s = e .before .before .before .before .before .before in
+    let a = s .args in
+    let none = entries-done (a .l .now) (a .p) (a .s) (e .loop3 .o) (c .loop3-test .left) in
+    λ count. measured-all (e .loop3 .inv .1) none ∙ sweep-length (a .l .now) (a .p) (a .s) (s .pre .1) count
+
+pub swept-length-spec : {M : Type 1} → statement M
+swept-length-spec =
+    tie.close
+    (tie.spec
+    Inv-loop
+    μ-loop
+    Inv-loop2
+    μ-loop2
+    Inv-loop3
+    μ-loop3
+    loop-holds
+    object-gone-requires
+    length-with-requires
+    add-i
+    loop-less
+    loop-again
+    loop2-holds
+    directory-gone-requires
+    length-with-requires-2
+    add-k
+    loop2-less
+    loop2-again
+    loop3-holds
+    entry-unused-requires
+    length-with-requires-3
+    add-o
+    loop3-less
+    loop3-again
+    returns)

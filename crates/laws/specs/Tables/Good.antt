@@ -1,0 +1,162 @@
+-- Tables that are formed and in shape, part by part: heap, cells, air and count; and that to write a thing that fits into a good part leaves it
+-- good. Assumes nothing.
+use mathlib.Core.Path.{_≡_, _∙_}
+use mathlib.Core.Bool.{true, false}
+use mathlib.Core.List.{List, []}
+use Prim.Native.Nat.{ℕ, _<_}
+use lib.ListN.{length, getD, set, length-set}
+use Rattle.terms.specs.Limits.{NODES, OBJECTS, PLACES, FIELDS, ROOTS}
+use Rattle.entry.specs.declared.Entry.{Entry}
+use Rattle.entry.specs.declared.Entry.the-variants.{Absent}
+use Rattle.entry.specs.Fits.{fitsEntry}
+use Rattle.heap.specs.declared.Heap.{Heap}
+use Rattle.heap.specs.declared.Object.{Object}
+use Rattle.heap.specs.declared.Roots.{Roots}
+use Rattle.heap.specs.Heap.{fitsName, fitsObject, fitsRoots, objectAt, rootsAt, withObject, withRoot}
+use Rattle.table.specs.declared.Cell.{Cell}
+use Rattle.table.specs.declared.Message.{Message}
+use Rattle.table.specs.declared.Message.the-variants.{Empty}
+use Rattle.table.specs.declared.Place.{Place}
+use Rattle.table.specs.declared.Table.{Table}
+use Rattle.table.specs.Formed.{Formed}
+use Rattle.table.specs.Shape.{fitsCount, fitsMessage, fitsTable}
+use Rattle.table.specs.Table.{cellWith, entryIn}
+use Rattle.laws.specs.Tables.ShapeLaws.{Shaped, in-shape}
+use Rattle.laws.specs.Tables.TableLaws.{every-set, set-all}
+
+-- ---- the parts
+
+-- four fields, each empty or a name, and empty where the object isn't live
+pub record GoodObject (x : Object) : Type 0 where
+  pub size : length (x .fields) ≡ FIELDS
+  pub fits : fitsObject x ≡ true
+
+-- eight roots, each empty or a name
+pub record GoodRoots (x : Roots) : Type 0 where
+  pub size : length (x .at) ≡ ROOTS
+  pub fits : fitsRoots x ≡ true
+
+-- an entry of object o for each node, each in shape
+pub record GoodCell (o : ℕ) (c : Cell) : Type 0 where
+  pub size : length (c .at) ≡ NODES
+  pub fits : (p : ℕ) → p < NODES → fitsEntry p o (entryIn c p) ≡ true
+
+-- 64 objects and eight nodes' roots
+pub record GoodHeap (h : Heap) : Type 0 where
+  pub objects : length (h .objects) ≡ OBJECTS
+  pub object : (o : ℕ) → o < OBJECTS → GoodObject (objectAt h o)
+  pub nodes : length (h .roots) ≡ NODES
+  pub roots : (p : ℕ) → p < NODES → GoodRoots (rootsAt h p)
+
+-- a cell for each object
+pub record GoodCells (cs : List Cell) : Type 0 where
+  pub size : length cs ≡ OBJECTS
+  pub cell : (o : ℕ) → o < OBJECTS → GoodCell o (getD cs o (record { at = [] }))
+
+-- 64 places, each empty or with a message in shape
+pub record GoodAir (ps : List Place) : Type 0 where
+  pub size : length ps ≡ PLACES
+  pub fits : (s : ℕ) → s < PLACES → fitsMessage (getD ps s (record { held = Empty }) .held) ≡ true
+
+-- formed and in shape
+pub record Good (t : Table) : Type 0 where
+  pub count : fitsCount (t .count) ≡ true
+  pub heap : GoodHeap (t .heap)
+  pub cells : GoodCells (t .cells)
+  pub air : GoodAir (t .air)
+
+-- ---- the whole
+
+-- put together
+pub is-good : (t : Table) → Formed t → Shaped t → Good t
+is-good t formed shape = record {
+  count = shape .count;
+  heap = record {
+    objects = formed .objects;
+    object = λ o number. record { size = formed .fields o number; fits = shape .objects o number };
+    nodes = formed .nodes;
+    roots = λ p number. record { size = formed .roots p number; fits = shape .roots p number };
+  };
+  cells = record {
+    size = formed .cells;
+    cell = λ o number. record { size = formed .entries o number; fits = λ p node. shape .entries p o node number };
+  };
+  air = record { size = formed .places; fits = shape .messages };
+}
+
+module _ {t : Table} (g : Good t) where
+  -- every array has its length
+  pub good-formed : Formed t
+  good-formed = record {
+    objects = g .heap .objects;
+    fields = λ o number. g .heap .object o number .size;
+    nodes = g .heap .nodes;
+    roots = λ p number. g .heap .roots p number .size;
+    cells = g .cells .size;
+    entries = λ o number. g .cells .cell o number .size;
+    places = g .air .size;
+  }
+
+  -- and every number is in its range
+  pub good-shape : fitsTable t ≡ true
+  good-shape = in-shape t (record {
+    count = g .count;
+    objects = λ o number. g .heap .object o number .fits;
+    roots = λ p number. g .heap .roots p number .fits;
+    entries = λ p o node number. g .cells .cell o number .fits p node;
+    messages = g .air .fits;
+  })
+
+-- ---- one thing written
+
+-- an object
+pub object-set : {h : Heap} (o : ℕ) (x : Object) → GoodHeap h → GoodObject x → GoodHeap (withObject h o x)
+object-set {h} o x g fits = record {
+  objects = length-set (h .objects) o x ∙ g .objects;
+  object = λ a low. set-all (λ j y. GoodObject y) (h .objects) o x (record { live = false; fields = [] }) fits a (g .object a low);
+  nodes = g .nodes;
+  roots = g .roots;
+}
+
+-- a root
+pub root-set : {h : Heap} (p r x : ℕ) → GoodHeap h → p < NODES → fitsName x ≡ true → GoodHeap (withRoot h p r x)
+unfolding fitsRoots
+root-set {h} p r x g node fits = record {
+  objects = g .objects;
+  object = g .object;
+  nodes = length-set (h .roots) p new ∙ g .nodes;
+  roots = λ a low. set-all (λ j y. GoodRoots y) (h .roots) p new (record { at = [] }) changed a (g .roots a low);
+}
+  where
+    old : List ℕ
+    old = rootsAt h p .at
+
+    new : Roots
+    new = record { at = set old r x }
+
+    changed : GoodRoots new
+    changed = record {
+      size = length-set old r x ∙ g .roots p node .size;
+      fits = every-set ROOTS fitsName old r x fits (g .roots p node .fits);
+    }
+
+-- an entry in its cell
+pub cell-good : {o : ℕ} {c : Cell} (p : ℕ) (e : Entry) → GoodCell o c → fitsEntry p o e ≡ true → GoodCell o (cellWith c p e)
+cell-good {o} {c} p e g fits = record {
+  size = length-set (c .at) p (record { held = e }) ∙ g .size;
+  fits = λ q low. set-all (λ j y. fitsEntry j o (y .held) ≡ true) (c .at) p (record { held = e }) (record { held = Absent }) fits q (g .fits q low);
+}
+
+-- a cell
+pub cells-set : {cs : List Cell} (o : ℕ) (c : Cell) → GoodCells cs → GoodCell o c → GoodCells (set cs o c)
+cells-set {cs} o c g fits = record {
+  size = length-set cs o c ∙ g .size;
+  cell = λ a low. set-all (λ j y. GoodCell j y) cs o c (record { at = [] }) fits a (g .cell a low);
+}
+
+-- a message
+pub air-set : {ps : List Place} (s : ℕ) (m : Message) → GoodAir ps → fitsMessage m ≡ true → GoodAir (set ps s (record { held = m }))
+air-set {ps} s m g fits = record {
+  size = length-set ps s (record { held = m }) ∙ g .size;
+  fits = λ a low. set-all (λ j y. fitsMessage (y .held) ≡ true) ps s (record { held = m }) (record { held = Empty }) fits a (g .fits a low);
+}

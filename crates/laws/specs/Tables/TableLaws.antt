@@ -1,0 +1,73 @@
+-- What stands where in a table of which one thing was changed: the new thing in its spot, the old ones in all others. Assumes nothing.
+use mathlib.Core.Path.{_≡_, ap}
+use mathlib.Core.Logic.{_≢_, ⊎-elim}
+use mathlib.Core.Bool.{Bool, true}
+use mathlib.Core.List.{List, []}
+use Prim.Native.Nat.{ℕ, _<_}
+use native.Mathlib.Omega.{arith}
+use lib.ListN.{length, getD, set}
+use lib.Seq.{getD-set-same, getD-set-other}
+use Rattle.terms.specs.Counted.{every}
+use Rattle.terms.specs.CountedLaws.{every-all, every-at}
+use Rattle.terms.specs.Limits.{NODES, OBJECTS, PLACES}
+use Rattle.entry.specs.declared.Entry.{Entry}
+use Rattle.entry.specs.declared.Entry.the-variants.{Absent}
+use Rattle.table.specs.declared.Cell.{Cell}
+use Rattle.table.specs.declared.Message.{Message}
+use Rattle.table.specs.declared.Message.the-variants.{Empty}
+use Rattle.table.specs.declared.Place.{Place}
+use Rattle.table.specs.declared.Slot.{Slot}
+use Rattle.table.specs.declared.Table.{Table}
+use Rattle.table.specs.Formed.{Formed}
+use Rattle.table.specs.Table.{cellAt, cellWith, entryAt, entryIn, messageAt, withEntry, withMessage}
+use Rattle.laws.specs.Tables.NewOrSame.{entry-either, message-either, set-either}
+
+-- what holds of the new element, and of an element that stands at j, holds at j after the new one is set
+pub set-all : {A : Type 0} (P : ℕ → A → Type 0) (l : List A) (i : ℕ) (x d : A) → P i x → (j : ℕ) → P j (getD l j d) → P j (getD (set l i x) j d)
+set-all P l i x d px j pj = ⊎-elim (λ new. rw (new .1, new .0) px) (λ same. rw same pj) (set-either l i j x d)
+
+-- where each of n elements passes a test, each does after one that passes is set
+pub every-set : (n : ℕ) (test : ℕ → Bool) (l : List ℕ) (i x : ℕ) → test x ≡ true → every n (λ k. test (getD l k 0)) ≡ true
+    → every n (λ k. test (getD (set l i x) k 0)) ≡ true
+every-set n test l i x new old =
+    every-all n _ (λ k low. set-all (λ j y. test y ≡ true) l i x 0 new k (every-at n (λ j. test (getD l j 0)) old k low))
+
+-- ---- entries
+
+-- in a cell, the entry of another node stays
+pub cell-kept : (c : Cell) (p q : ℕ) (e : Entry) → q ≢ p → entryIn (cellWith c p e) q ≡ entryIn c q
+cell-kept c p q e ne = ap (λ (s : Slot). s .held) (getD-set-other (c .at) p q (record { held = e }) (record { held = Absent }) ne)
+
+-- and the new entry is there
+pub cell-set : (c : Cell) (p : ℕ) (e : Entry) → p < length (c .at) → entryIn (cellWith c p e) p ≡ e
+cell-set c p e lt = ap (λ (s : Slot). s .held) (getD-set-same (c .at) p (record { held = e }) (record { held = Absent }) lt)
+
+module _ (t : Table) (p o : ℕ) (e : Entry) where
+  -- entries of another object stay
+  pub entry-of-another : (q a : ℕ) → a ≢ o → entryAt (withEntry t p o e) q a ≡ entryAt t q a
+  entry-of-another q a ne = ⊎-elim (λ new. absurd (ne (new .1))) (λ same. same) (entry-either t p o e q a)
+
+  module _ (formed : Formed t) (object : o < OBJECTS) where
+    -- the object's cell is the changed one
+    cell-there : cellAt (withEntry t p o e) o ≡ cellWith (cellAt t o) p e
+    cell-there = getD-set-same (t .cells) o (cellWith (cellAt t o) p e) (record { at = [] }) (omega (arith, formed .cells))
+
+    -- entries at another node stay
+    pub entry-elsewhere : (q : ℕ) → q ≢ p → entryAt (withEntry t p o e) q o ≡ entryAt t q o
+    entry-elsewhere q ne = ⊎-elim (λ new. absurd (ne (new .0))) (λ same. same) (entry-either t p o e q o)
+
+    -- the new entry is there
+    pub entry-there : p < NODES → entryAt (withEntry t p o e) p o ≡ e
+    entry-there node = rw cell-there (cell-set (cellAt t o) p e (omega (arith, formed .entries o object)))
+
+-- ---- messages
+
+module _ (t : Table) (s : ℕ) (m : Message) where
+  -- messages in other places stay
+  pub message-elsewhere : (a : ℕ) → a ≢ s → messageAt (withMessage t s m) a ≡ messageAt t a
+  message-elsewhere a ne = ⊎-elim (λ new. absurd (ne (new .0))) (λ same. same) (message-either t s m a)
+
+  -- the new message is there
+  pub message-there : Formed t → s < PLACES → messageAt (withMessage t s m) s ≡ m
+  message-there formed place =
+      ap (λ (x : Place). x .held) (getD-set-same (t .air) s (record { held = m }) (record { held = Empty }) (omega (arith, formed .places)))

@@ -1,0 +1,13 @@
+pub mod Accepted
+pub mod Bytes
+pub mod Changed
+pub mod Events
+pub mod Fronts
+pub mod Image
+pub mod Kinds
+pub mod Lookup
+pub mod Parts
+pub mod Patched
+pub mod Scan
+pub mod Seen
+pub mod Spread
