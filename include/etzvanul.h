@@ -50,7 +50,7 @@ extern "C" {
 #define ETZVANUL_LARGEST_BYTES 11508
 
 /* The bytes of stack that a call uses at most, as host/stack_use.c measures it. */
-#define ETZVANUL_STACK_BYTES 135168
+#define ETZVANUL_STACK_BYTES 32768
 
 /* The field. Nodes, objects, roots, fields and message places are numbered from 0; object o belongs to node o / 8. */
 #define ETZVANUL_NODES 8

@@ -1,9 +1,9 @@
 -- Each public promise determines what comes of a call: any two results that meet it are equal, for every input, refused ones as well (document 01,
 -- "What shuts out a hollow build"). A promise is a condition on results. Nearly every one names its result, `r ≡ definition`, and `named` is the
 -- theorem of all of these; the others, and the calls that a host, a run or a scenario goes through, stand below it. Assumes nothing.
-use mathlib.Core.Path.{_≡_, sym, ap, ap₂, _∙_}
+use mathlib.Core.Path.{_≡_, refl, sym, ap, ap₂, _∙_}
 use mathlib.Core.Bool.{Bool}
-use mathlib.Core.List.{List, _++_}
+use mathlib.Core.List.{List, [], _∷_, _++_}
 use Prim.Native.Nat.{ℕ}
 use lib.ListN.{length}
 use Rattle.terms.specs.Counted.{holds, list}
@@ -14,9 +14,13 @@ use Rattle.entry.specs.declared.Weight.{Weight}
 use Rattle.lent.specs.Lent.{lent}
 use Rattle.heap.specs.declared.Heap.{Heap}
 use Rattle.heap.specs.declared.Marks.{Marks}
-use Rattle.heap.specs.Heap.{rootsOf}
+use Rattle.heap.specs.Heap.{freshHeap, rootsOf}
 use Rattle.heap.specs.Walk.{heldBy, ownedBy, pointed, reached}
+use Rattle.table.specs.declared.Cell.{Cell}
+use Rattle.table.specs.declared.Depth.{Depth}
 use Rattle.table.specs.declared.Table.{Table}
+use Rattle.table.specs.Depth.{depth}
+use Rattle.table.specs.Table.{cellAt}
 use Rattle.step.specs.declared.Event.{Event}
 use Rattle.step.specs.declared.Outcome.{Outcome}
 use Rattle.step.specs.Outcome.{valueOf}
@@ -82,6 +86,14 @@ reached-determined h p counted = marked (reached h (ownedBy p) (rootsOf h p ++ p
 pub held-determined : (h : Heap) (p : ℕ) (marks : Marks)
     → Determined (λ (m : Marks). m .seen ≡ list OBJECTS (holds (rootsOf h p ++ heldBy h (marks .seen))))
 held-determined h p marks = marked (list OBJECTS (holds (rootsOf h p ++ heldBy h (marks .seen))))
+
+-- ---- the depth in a cell, of which a promise tells for every table that has it
+
+-- `Cell::depth`
+pub depth-determined : (c : Cell) (p : ℕ) → Determined (λ (r : Depth). (t : Table) (o : ℕ) → cellAt t o ≡ c → r ≡ depth t p o)
+depth-determined c p =
+    let t : Table = record { count = 0; heap = freshHeap; cells = c ∷ []; air = [] } in
+    λ r s first second. first t 0 refl ∙ sym (second t 0 refl)
 
 -- ---- the saved image
 
