@@ -9,7 +9,6 @@ use Rattle.entry.specs.declared.Entry.{Entry}
 use Rattle.entry.specs.declared.Entry.the-variants.{Absent, AtOwner}
 use Rattle.entry.specs.Acts.{directory}
 use Rattle.entry.specs.Entry.{returns}
-use Rattle.table.specs.declared.Table.{Table}
 use Rattle.table.specs.Table.{entryAt}
 use Rattle.step.specs.declared.Event.{Event}
 use Rattle.step.specs.declared.Outcome.{Outcome}

@@ -1,6 +1,6 @@
 -- The host call (document 01, "Saved image", last paragraph): image in, one event record, buffer for the new image; one number comes back.
 -- Definitions only; assumes nothing.
-use mathlib.Core.Bool.{Bool, true, false, not}
+use mathlib.Core.Bool.{not}
 use mathlib.Core.List.{List, [], _∷_}
 use Prim.Native.Nat.{ℕ, _+_, _*_}
 use lib.Dec.{eqb, ltb}

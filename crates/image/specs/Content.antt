@@ -1,18 +1,17 @@
 -- What a record's numbers mean: whether the shape allows them, and the table with them in it (document 01, "Saved image", the payloads and
 -- 24 VALUE). Definitions only; assumes nothing.
-use mathlib.Core.Bool.{Bool, true, false, not}
-use mathlib.Core.List.{List, [], _∷_}
+use mathlib.Core.Bool.{Bool, true, false}
+use mathlib.Core.List.{List, []}
 use Prim.Native.Nat.{ℕ}
 use lib.Dec.{ltb, leb, eqb}
 use lib.ListN.{getD, set, take, drop}
 use Rattle.terms.specs.Choose.{_and_}
 use Rattle.terms.specs.Limits.{NODES, OBJECTS, PLACES, FIELDS, ROOTS, owner}
-use Rattle.entry.specs.declared.Remote.{Remote}
 use Rattle.entry.specs.declared.Entry.{Entry}
 use Rattle.entry.specs.declared.Entry.the-variants.{AtOwner, Elsewhere}
 use Rattle.entry.specs.Entry.{returns, weight}
 use Rattle.entry.specs.Acts.{directory}
-use Rattle.entry.specs.Fits.{fitsDirectory, fitsEntry}
+use Rattle.entry.specs.Fits.{fitsEntry}
 use Rattle.heap.specs.declared.Object.{Object}
 use Rattle.heap.specs.declared.Roots.{Roots}
 use Rattle.heap.specs.Heap.{fitsObject, fitsRoots, withObject}

@@ -1,6 +1,6 @@
 -- The order of records (document 01, "Order" and 23 ORDER): each record has a position in the image, and after each it is fixed from
 -- which position to which the next may stand. Definitions only; assumes nothing.
-use mathlib.Core.Bool.{Bool, true, false}
+use mathlib.Core.Bool.{Bool}
 use mathlib.Core.List.{List}
 use Prim.Native.Nat.{ℕ, _+_, _*_}
 use lib.Dec.{leb, ltb}

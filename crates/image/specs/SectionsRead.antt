@@ -35,7 +35,6 @@ use Rattle.image.specs.ContentLaws.{Shaped, shaped, idle-is, live-fit, l
 use Rattle.image.specs.ContentLaws.{directoryNumbers, remoteNumbers, remote-away, remote-fit, remote-is, remote-fits, directory-at}
 use Rattle.image.specs.ContentLaws.{reference-fit, decrementNumbers, decrement-fit, decrement-is}
 use Rattle.image.specs.Order.{position, turn, firstTurn}
-use Rattle.image.specs.Reader.{read}
 use Rattle.image.specs.ReadLaws.{Reads, ends}
 use Rattle.image.specs.Records.{Record, row}
 use Rattle.image.specs.Stages.{Stage, At, Leads, in-turn, leads-none, leads-one, leads-append, leads-as, leads-gather}

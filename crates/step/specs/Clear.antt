@@ -1,5 +1,5 @@
 -- CLEAR P r: root r becomes empty. Definitions only; assumes nothing.
-use mathlib.Core.List.{List, []}
+use mathlib.Core.List.{[]}
 use Prim.Native.Nat.{ℕ}
 use Rattle.terms.specs.Limits.{NONE}
 use Rattle.heap.specs.Heap.{withRoot}

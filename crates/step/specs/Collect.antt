@@ -1,5 +1,5 @@
 -- COLLECT P: local collection (document 01, COLLECT). Definitions only; assumes nothing.
-use mathlib.Core.Bool.{Bool, true, false, not}
+use mathlib.Core.Bool.{Bool, not}
 use mathlib.Core.List.{List, [], _∷_, _++_}
 use Prim.Native.Nat.{ℕ, _+_, _*_}
 use Rattle.terms.specs.Choose.{if_then_else_, _when_, _and_, _or_}

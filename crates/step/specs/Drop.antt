@@ -1,7 +1,7 @@
 -- DROP P o: the entry of o at P is deleted; a remote one sends its MsgCtr and RefWeight to its Parent in one decrement (document 01, DROP).
 -- Definitions only; assumes nothing.
-use mathlib.Core.Bool.{Bool, true, false, not}
-use mathlib.Core.List.{List, [], _∷_}
+use mathlib.Core.Bool.{true, not}
+use mathlib.Core.List.{[], _∷_}
 use Prim.Native.Nat.{ℕ}
 use Rattle.terms.specs.Choose.{_when_}
 use Rattle.terms.specs.Numbers.{NOENTRY, BUSY, FULL}

@@ -1,5 +1,5 @@
 -- The kinds of event and the range of each operand (document 01, "Events", the table). Definitions only; assumes nothing.
-use mathlib.Core.Bool.{Bool, true, false}
+use mathlib.Core.Bool.{Bool}
 use Prim.Native.Nat.{ℕ}
 use lib.Dec.{ltb, eqb}
 use Rattle.terms.specs.Choose.{if_then_else_, _and_}

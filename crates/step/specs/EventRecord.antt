@@ -1,6 +1,6 @@
 -- An event as a record of bytes (document 01, "Saved image": payload length, kind, payload): length 4, kind, a b c d.
 -- Definitions only; assumes nothing.
-use mathlib.Core.Bool.{Bool, true, false}
+use mathlib.Core.Bool.{Bool}
 use mathlib.Core.List.{List, [], _∷_}
 use Prim.Native.Nat.{ℕ}
 use lib.Dec.{eqb}

@@ -1,5 +1,5 @@
 -- LOAD P r q f: root r takes field f of the object in root q. Definitions only; assumes nothing.
-use mathlib.Core.Bool.{Bool, true, false, not}
+use mathlib.Core.Bool.{not}
 use mathlib.Core.List.{List, [], _∷_}
 use Prim.Native.Nat.{ℕ}
 use Rattle.terms.specs.Choose.{Refusal, _when_}

@@ -1,5 +1,5 @@
 -- MOVE P r q: root r takes what root q holds, empty too. Definitions only; assumes nothing.
-use mathlib.Core.List.{List, []}
+use mathlib.Core.List.{[]}
 use Prim.Native.Nat.{ℕ}
 use Rattle.heap.specs.Heap.{rootAt, withRoot}
 use Rattle.table.specs.declared.Table.{Table}

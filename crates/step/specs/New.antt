@@ -1,6 +1,6 @@
 -- NEW P r: the lowest object of P that isn't live becomes live, fields empty, and the empty root r names it. Definitions only; assumes nothing.
-use mathlib.Core.Bool.{Bool, true, false, not}
-use mathlib.Core.List.{List, [], _∷_}
+use mathlib.Core.Bool.{not}
+use mathlib.Core.List.{[], _∷_}
 use Prim.Native.Nat.{ℕ, _+_, _*_}
 use lib.Dec.{ltb}
 use Rattle.terms.specs.Choose.{_when_}

@@ -1,6 +1,6 @@
 -- What comes of an event: refused with a number, or done; its value; and the form that each event's rule has.
 -- Definitions only; assumes nothing.
-use mathlib.Core.Bool.{Bool, true, false}
+use mathlib.Core.Bool.{Bool}
 use mathlib.Core.List.{List}
 use Prim.Native.Nat.{ℕ}
 use lib.Dec.{eqb}

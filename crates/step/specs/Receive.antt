@@ -1,7 +1,7 @@
 -- RECEIVE s r: the reference in s reaches its node, into the empty root r of that node (document 01, RECEIVE; document 000, section 4.5).
 -- Definitions only; assumes nothing.
-use mathlib.Core.Bool.{Bool, true, false, not}
-use mathlib.Core.List.{List, [], _∷_}
+use mathlib.Core.Bool.{Bool, true, not}
+use mathlib.Core.List.{[], _∷_}
 use Prim.Native.Nat.{ℕ}
 use lib.Dec.{eqb}
 use Rattle.terms.specs.Choose.{if_then_else_, _when_, _or_}

@@ -1,7 +1,7 @@
 -- SEND P r Q: the reference in root r goes into the lowest empty place; root r keeps it (document 01, SEND; document 000, section 4.5).
 -- Definitions only; assumes nothing.
-use mathlib.Core.Bool.{Bool, true, false, not}
-use mathlib.Core.List.{List, [], _∷_}
+use mathlib.Core.Bool.{Bool, not}
+use mathlib.Core.List.{[], _∷_}
 use Prim.Native.Nat.{ℕ}
 use lib.Dec.{ltb, eqb}
 use Rattle.terms.specs.Choose.{_when_, _and_, _or_}

@@ -1,6 +1,6 @@
 -- SETTLE s: the decrement in s reaches its node: RC - n, MsgCtr + m there (document 01, SETTLE). Definitions only; assumes nothing.
-use mathlib.Core.Bool.{Bool, true, false}
-use mathlib.Core.List.{List, [], _∷_}
+use mathlib.Core.Bool.{true}
+use mathlib.Core.List.{[], _∷_}
 use Prim.Native.Nat.{ℕ}
 use Rattle.terms.specs.Choose.{_when_}
 use Rattle.terms.specs.Numbers.{NOMSG, TORN}

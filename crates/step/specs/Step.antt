@@ -1,6 +1,6 @@
 -- One step for every table and every event (document 01, "Numbers given for a refused event"): the refusals that any event may meet,
 -- then those of its kind, in the order in which they are tried, then its effect, which is counted. Definitions only; assumes nothing.
-use mathlib.Core.Bool.{Bool, true, false, not}
+use mathlib.Core.Bool.{not}
 use mathlib.Core.List.{List, [], _∷_, _++_}
 use Prim.Native.Nat.{ℕ, _+_}
 use lib.Dec.{ltb}

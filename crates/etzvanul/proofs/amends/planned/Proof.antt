@@ -1,5 +1,5 @@
 -- `etzvanul::amends::planned` makes the call that the plan makes: its refusal, too little room, or the new image. Assumes nothing.
-use mathlib.Core.Path.{_≡_, ap, _∙_}
+use mathlib.Core.Path.{ap, _∙_}
 use Prim.Native.Nat.{ℕ}
 use native.Mathlib.Omega.{arith}
 use lib.ListN.{length}

@@ -1,5 +1,5 @@
 -- `etzvanul::depths::depth_in` meets its contract: in the image of a table the cell is that of the table, which has the shape. Assumes nothing.
-use mathlib.Core.Path.{_≡_, refl, sym, ap, _∙_}
+use mathlib.Core.Path.{_≡_, sym, ap, _∙_}
 use mathlib.Core.List.{List}
 use Prim.Native.Nat.{ℕ, _<_}
 use borrow.Author.Needs.{needs}

@@ -1,5 +1,4 @@
 -- `step::Event::is_record` asks for the length, then for the stated one. Assumes nothing.
-use mathlib.Core.Path.{_∙_}
 use borrow.Author.Tests.{eq-eqb, ne-eqb}
 use borrow.Author.Needs.{needs}
 use Rattle.step.proofs.Event.is_record.Statement.{statement}
