@@ -21,5 +21,6 @@ pub mod SweepDiffers
 pub mod SweepImage
 pub mod SweepLaws
 pub mod SweepMatches
+pub mod SweepOnward
 pub mod SweptLength
 pub mod Told

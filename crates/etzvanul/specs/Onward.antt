@@ -25,8 +25,9 @@ use Rattle.etzvanul.specs.Told.{Told}
 pub record From (l : List ℕ) (at m : ℕ) : Type 0 where
   pub same : (n : ℕ) → m ≤ n → n ≤ position 6 0 → foundFrom at n l ≡ foundFrom 0 n l
 
--- what the scans rely on: each may go on behind what it found, and a node's entry of its own object has no Presence
+-- what the scans rely on: each may begin behind the event count and go on behind what it found, and a node's entry of its own object has no Presence
 pub record Scannable (l : List ℕ) : Type 0 where
+  pub counted : From l 8 (position 1 0)
   pub behind : (s : Spot) → Within s → From l (foundFrom 0 (spotPosition s) l .after) (suc (spotPosition s))
   pub own : (p o : ℕ) → p < NODES → o < OBJECTS → p ≡ owner o → isPresent (entryOf l p o) ≡ false
 
@@ -40,6 +41,9 @@ no-presence p o (Elsewhere e) here fits = absurd (false≢true (rw (eq-eqb p (ow
 
 pub scannable : (l : List ℕ) (t : Table) → Told l t → Scannable l
 scannable l t told = record {
+  counted = record {
+    same = λ n le end. ap (λ (at : ℕ). foundFrom at n l) (sym (told .second)) ∙ told .onward 1 n (omega arith) end;
+  };
   behind = λ s within. record {
     same = λ n le end. ap (λ (at : ℕ). foundFrom at n l) (told .ends s within) ∙ told .onward (suc (spotPosition s)) n le end;
   };

@@ -30,6 +30,7 @@ ghost use Rattle.etzvanul.specs.HostCall.{numberIn, bufferIn};
 ghost use Rattle.etzvanul.specs.Orderly.{Orderly};
 ghost use Rattle.etzvanul.specs.Plan.{changesOf, newImage};
 ghost use Rattle.etzvanul.specs.Sweep.{sweepChanges, sweptImage};
+ghost use Rattle.etzvanul.specs.SweepOnward.{Resumes};
 
 // The kind of COLLECT, which has no plan.
 const COLLECT: u16 = 9;
@@ -58,6 +59,7 @@ fn swept(image: &[u8], p: u8, s: Sweep, n: u32, out: &mut [u8]) -> u64
     requires node { ⌜ p < NODES ⌝ }
     requires small { ⌜ length (now image) + 100 ≤ FULL ⌝ }
     requires orderly { ⌜ (s .answer ≡ ACCEPTED → Orderly 0 (sweepChanges n (now image) p s) (length (now image))) ⌝ }
+    requires resumes { ⌜ Resumes (now image) p s ⌝ }
     ensures number { λ r. ⌜ r ≡ numberIn (callOf (s .answer) (Collected (s .reclaimed)) (sweptImage n (now (image .entry)) p s) (now (out .entry))) ⌝ }
     ensures bytes { λ r. ⌜ now (out .exit) ≡ bufferIn (callOf (s .answer) (Collected (s .reclaimed)) (sweptImage n (now (image .entry)) p s) (now (out .entry))) (now (out .entry)) ⌝ }
 {

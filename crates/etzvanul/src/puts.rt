@@ -11,7 +11,7 @@ ghost use lib.ListN.{length, take, drop};
 ghost use lib.Seq.{sets};
 ghost use Rattle.terms.specs.Bytes.{over};
 ghost use Rattle.image.specs.Stored.{FULL, Stored};
-ghost use Rattle.etzvanul.specs.Orderly.{Orderly, Cuts, Moved, putTo, put, others, lengthWith, lengthAfter};
+ghost use Rattle.etzvanul.specs.Orderly.{Orderly, Cuts, Moved, passed, putTo, put, others, lengthWith, lengthAfter};
 ghost use Rattle.etzvanul.specs.Plan.{changesOf, newImage};
 
 // The bytes of the record of the event count, which stands first.
@@ -100,6 +100,22 @@ pub(crate) fn put_plan(out: &mut [u8], l: &[u8], count: u32, plan: Plan)
     let from = d.from;
     let rest = l.len() - from;
     copy_part(out, d.to, l, from, rest);
+}
+
+// Where the next change may begin.
+pub(crate) fn place_after(from: usize, change: Change) -> usize
+    ensures { λ r. ⌜ r ≡ passed from change ⌝ }
+{
+    match change {
+        Change::Same => from,
+        Change::To {
+            at: _,
+            after,
+            a: _,
+            b: _,
+            held: _,
+        } => after,
+    }
 }
 
 // The length that a change leaves.

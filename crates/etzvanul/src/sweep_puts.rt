@@ -1,32 +1,38 @@
 // The new image of a COLLECT: the old one copied once without what goes and with the entries that are no longer used, and how long that becomes.
+// Each thing that changes is looked for from where the last change ended.
 use crate::Change;
 use crate::Cursor;
 use crate::Sweep;
 use crate::changes::replaced;
-use crate::lookups::entry_spot;
-use crate::lookups::object_spot;
 use crate::puts::COUNTED;
 use crate::puts::copy_part;
 use crate::puts::length_with;
+use crate::puts::place_after;
 use crate::puts::put_change;
 use crate::puts::put_to;
+use crate::sweeps::entry_from;
+use crate::sweeps::object_from;
 use heap::Heap;
 use image::Held;
 ghost use mathlib.Core.Path.{_≡_};
-ghost use Prim.Native.Nat.{ℕ, _<_, _≤_};
+ghost use Prim.Native.Nat.{ℕ, _+_, _*_, _<_, _≤_};
 ghost use lib.ListN.{length};
 ghost use Rattle.terms.specs.Bytes.{over};
 ghost use Rattle.terms.specs.Limits.{NODES, OWNED, OBJECTS};
+ghost use Rattle.image.specs.Order.{position};
 ghost use Rattle.image.specs.Stored.{FULL};
+ghost use Rattle.etzvanul.specs.Onward.{From};
 ghost use Rattle.etzvanul.specs.Orderly.{Orderly};
 ghost use Rattle.etzvanul.specs.Sweep.{objectGone, directoryGone, entryUnused, sweepChanges, sweptImage};
+ghost use Rattle.etzvanul.specs.SweepOnward.{Resumes};
 
 // ---- the changes
 
 // Own object number k goes.
-fn object_gone(l: &[u8], p: u8, s: Sweep, k: u8) -> Change
+fn object_gone(l: &[u8], from: usize, p: u8, s: Sweep, k: u8) -> Change
     requires { ⌜ p < NODES ⌝ }
     requires { ⌜ k < OWNED ⌝ }
+    requires { ⌜ From (now l) from (position 1 (OWNED * p + k)) ⌝ }
     ensures { λ r. ⌜ r ≡ objectGone (now (l .entry)) p (s .gone) k ⌝ }
 {
     let o = Heap::OWNED * p + k;
@@ -34,13 +40,14 @@ fn object_gone(l: &[u8], p: u8, s: Sweep, k: u8) -> Change
     if !s.gone[i] {
         return Change::Same;
     }
-    replaced(object_spot(l, o), o, 0, Held::Nothing)
+    replaced(object_from(l, from, o), o, 0, Held::Nothing)
 }
 
 // Its directory goes with it.
-fn directory_gone(l: &[u8], p: u8, s: Sweep, k: u8) -> Change
+fn directory_gone(l: &[u8], from: usize, p: u8, s: Sweep, k: u8) -> Change
     requires { ⌜ p < NODES ⌝ }
     requires { ⌜ k < OWNED ⌝ }
+    requires { ⌜ From (now l) from (position 3 (OWNED * p + k)) ⌝ }
     ensures { λ r. ⌜ r ≡ directoryGone (now (l .entry)) p (s .gone) k ⌝ }
 {
     let o = Heap::OWNED * p + k;
@@ -48,19 +55,22 @@ fn directory_gone(l: &[u8], p: u8, s: Sweep, k: u8) -> Change
     if !s.gone[i] {
         return Change::Same;
     }
-    replaced(entry_spot(l, p, o), p, o, Held::Nothing)
+    replaced(entry_from(l, from, p, o), p, o, Held::Nothing)
 }
 
 // The entry of another's object gets Presence false.
-fn entry_unused(l: &[u8], p: u8, s: Sweep, o: u8) -> Change
+fn entry_unused(l: &[u8], from: usize, p: u8, s: Sweep, o: u8) -> Change
+    requires { ⌜ p < NODES ⌝ }
     requires { ⌜ o < OBJECTS ⌝ }
+    requires { ⌜ From (now l) from (position 4 (256 * p + o)) ⌝ }
+    requires { ⌜ Resumes (now l) p s ⌝ }
     ensures { λ r. ⌜ r ≡ entryUnused (now (l .entry)) p (s .unused) o ⌝ }
 {
     let i = o as usize;
     if !s.unused[i] {
         return Change::Same;
     }
-    let found = entry_spot(l, p, o);
+    let found = entry_from(l, from, p, o);
     let held = found.held;
     let e = held.entry();
     let unused = e.set_unused();
@@ -73,6 +83,7 @@ fn entry_unused(l: &[u8], p: u8, s: Sweep, o: u8) -> Change
 pub(crate) fn put_sweep(out: &mut [u8], l: &[u8], count: u32, p: u8, s: Sweep)
     requires { ⌜ p < NODES ⌝ }
     requires { ⌜ Orderly 0 (sweepChanges count (now l) p s) (length (now l)) × (length (sweptImage count (now l) p s) ≤ length (now out)) ⌝ }
+    requires { ⌜ Resumes (now l) p s ⌝ }
     ensures { λ r. ⌜ now (out .exit) ≡ over (sweptImage count (now (l .entry)) p s) (now (out .entry)) ⌝ }
 {
     let counted = Held::Count(count);
@@ -84,7 +95,7 @@ pub(crate) fn put_sweep(out: &mut [u8], l: &[u8], count: u32, p: u8, s: Sweep)
             out,
             l,
             Cursor { from: from, to: to },
-            object_gone(l, p, s, i),
+            object_gone(l, from, p, s, i),
         );
         from = c.from;
         to = c.to;
@@ -96,7 +107,7 @@ pub(crate) fn put_sweep(out: &mut [u8], l: &[u8], count: u32, p: u8, s: Sweep)
             out,
             l,
             Cursor { from: from, to: to },
-            directory_gone(l, p, s, k),
+            directory_gone(l, from, p, s, k),
         );
         from = c.from;
         to = c.to;
@@ -108,7 +119,7 @@ pub(crate) fn put_sweep(out: &mut [u8], l: &[u8], count: u32, p: u8, s: Sweep)
             out,
             l,
             Cursor { from: from, to: to },
-            entry_unused(l, p, s, o),
+            entry_unused(l, from, p, s, o),
         );
         from = c.from;
         to = c.to;
@@ -122,22 +133,30 @@ pub(crate) fn put_sweep(out: &mut [u8], l: &[u8], count: u32, p: u8, s: Sweep)
 pub(crate) fn swept_length(l: &[u8], p: u8, s: Sweep) -> usize
     requires { ⌜ p < NODES ⌝ }
     requires { ⌜ (length (now l) ≤ FULL) × Orderly 0 (sweepChanges 0 (now l) p s) (length (now l)) ⌝ }
+    requires { ⌜ Resumes (now l) p s ⌝ }
     ensures { λ r. ⌜ ((count : ℕ) → r ≡ length (sweptImage count (now (l .entry)) p s)) ⌝ }
 {
     let mut n = l.len();
+    let mut at = COUNTED;
     let mut i: u8 = 0;
     while i < Heap::OWNED {
-        n = length_with(n, object_gone(l, p, s, i));
+        let c = object_gone(l, at, p, s, i);
+        n = length_with(n, c);
+        at = place_after(at, c);
         i += 1;
     }
     let mut k: u8 = 0;
     while k < Heap::OWNED {
-        n = length_with(n, directory_gone(l, p, s, k));
+        let c = directory_gone(l, at, p, s, k);
+        n = length_with(n, c);
+        at = place_after(at, c);
         k += 1;
     }
     let mut o: u8 = 0;
     while o < Heap::OBJECTS {
-        n = length_with(n, entry_unused(l, p, s, o));
+        let c = entry_unused(l, at, p, s, o);
+        n = length_with(n, c);
+        at = place_after(at, c);
         o += 1;
     }
     n

@@ -27,7 +27,7 @@ ghost use Rattle.etzvanul.specs.Sweep.{heapIn, countedIn, presentIn, swe
 
 // ---- what the image tells, looked for from a place on
 
-fn object_from(image: &[u8], at: usize, o: u8) -> Found
+pub(crate) fn object_from(image: &[u8], at: usize, o: u8) -> Found
     requires { ⌜ o < OBJECTS ⌝ }
     requires { ⌜ From (now image) at (spotPosition (object o)) ⌝ }
     ensures { λ r. ⌜ r ≡ objectSpot (now (image .entry)) o ⌝ }
@@ -43,7 +43,7 @@ fn roots_from(image: &[u8], at: usize, p: u8) -> Found
     look_from(image, at, roots_place(p))
 }
 
-fn entry_from(image: &[u8], at: usize, p: u8, o: u8) -> Found
+pub(crate) fn entry_from(image: &[u8], at: usize, p: u8, o: u8) -> Found
     requires { ⌜ p < NODES ⌝ }
     requires { ⌜ o < OBJECTS ⌝ }
     requires { ⌜ From (now image) at (spotPosition (entrySpot p o)) ⌝ }

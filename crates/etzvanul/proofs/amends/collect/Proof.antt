@@ -5,6 +5,7 @@ use Rattle.image.specs.Reader.{read}
 use Rattle.image.specs.RoundTrip.{accepted-size}
 use Rattle.etzvanul.specs.Amended.{collect-node, collect-orderly, collect-back}
 use Rattle.etzvanul.specs.Onward.{scannable}
+use Rattle.etzvanul.specs.SweepOnward.{resumes}
 use Rattle.etzvanul.proofs.Slices.{are-bytes, slice-told}
 use Rattle.etzvanul.proofs.amends.collect.Statement.{statement}
 use Rattle.etzvanul.proofs.amends.collect.Tie as tie
@@ -31,7 +32,8 @@ swept-requires c κs =
     let size = accepted-size l (are-bytes l each) (asked .accepted) in
     let told = slice-told l each (asked .accepted) in
     let orderly = collect-orderly l told (a .e) (a .count) asked (a .out .now) (s .pre .1) (c .before .sweep .result) (c .before .sweep .ensures) in
-    (collect-node l told (a .e) (a .count) asked (a .out .now) (s .pre .1), (omega (arith, size .1), orderly))
+    let onward = resumes l (a .e .a) (c .before .sweep .result) (scannable l (read l .table) told) (c .before .sweep .ensures) in
+    (collect-node l told (a .e) (a .count) asked (a .out .now) (s .pre .1), (omega (arith, size .1), (orderly, onward)))
 
 same-length : tie.Need-same-length
 same-length c = search needs

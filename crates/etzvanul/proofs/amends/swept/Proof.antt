@@ -23,7 +23,7 @@ swept-length-requires : tie.Need-swept-length-requires
 unfolding sweepChanges
 swept-length-requires c κs =
     let s = c .before .before .before .before in
-    (s .pre .0, (omega (arith, s .pre .1 .0), s .pre .1 .1 (c .if1 .left)))
+    (s .pre .0, ((omega (arith, s .pre .1 .0), s .pre .1 .1 .0 (c .if1 .left)), s .pre .1 .1 .1))
 
 cast-result-2 : tie.Need-cast-result-2
 cast-result-2 c = search needs
@@ -40,14 +40,14 @@ put-sweep-requires : tie.Need-put-sweep-requires
 put-sweep-requires c κs =
     let s = c .before .before .before .before .before .before .before in
     let size = c .before .before .swept-length .ensures (s .args .n) in
-    (s .pre .0, (s .pre .1 .1 (c .before .before .before .if1 .left), omega (arith, size, c .before .if2 .left)))
+    (s .pre .0, ((s .pre .1 .1 .0 (c .before .before .before .if1 .left), omega (arith, size, c .before .if2 .left)), s .pre .1 .1 .1))
 
 number-of-requires : tie.Need-number-of-requires
 number-of-requires c κs =
     let l = c .before .before .before .before .before in
     let s = l .before .before .before .before .before in
     let a = s .args in
-    let most = swept-most (a .n) (a .image .now) (a .p) (a .s) (s .pre .1 .1 (l .before .if1 .left)) in
+    let most = swept-most (a .n) (a .image .now) (a .p) (a .s) (s .pre .1 .1 .0 (l .before .if1 .left)) in
     omega (arith, l .swept-length .ensures (a .n), most, s .pre .1 .0)
 
 same-length : tie.Need-same-length

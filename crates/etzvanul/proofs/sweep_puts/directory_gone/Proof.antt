@@ -2,10 +2,12 @@
 use mathlib.Core.Path.{_≡_}
 use mathlib.Core.Bool.{true, false}
 use Prim.Native.Nat.{_+_, _*_}
+use native.Mathlib.Omega.{arith}
 use borrow.Author.Tests.{not-false, not-true}
 use borrow.Author.Needs.{needs}
 use Rattle.terms.specs.Limits.{OWNED}
 use Rattle.heap.specs.Walk.{isMarked}
+use Rattle.etzvanul.specs.Onward.{own-position}
 use Rattle.etzvanul.proofs.sweep_puts.directory_gone.Statement.{statement}
 use Rattle.etzvanul.proofs.sweep_puts.directory_gone.Tie as tie
 
@@ -24,11 +26,14 @@ element-copy-out-if1 c = search needs
 returns : tie.Need-returns
 returns c =
     let a = c .before .before .before .args in
-    let stays : isMarked (a .t3 .gone) (OWNED * a .p + a .k) ≡ false = not-true _ (c .if1 .taken) in
+    let stays : isMarked (a .t4 .gone) (OWNED * a .p + a .k) ≡ false = not-true _ (c .if1 .taken) in
     rw stays
 
-entry-spot-requires : tie.Need-entry-spot-requires
-entry-spot-requires c κs = search needs
+entry-from-requires : tie.Need-entry-from-requires
+entry-from-requires c κs =
+    let s = c .before .before .before in
+    let a = s .args in
+    (s .pre .0, (omega arith, rw (own-position (a .p) (a .k) (s .pre .1 .0)) (s .pre .1 .1)))
 
 replaced-requires : tie.Need-replaced-requires
 replaced-requires c κs = search needs
@@ -37,8 +42,8 @@ returns-2 : tie.Need-returns-2
 returns-2 c =
     let i = c .before .before in
     let a = i .before .before .before .args in
-    let goes : isMarked (a .t3 .gone) (OWNED * a .p + a .k) ≡ true = not-false _ (i .if1 .left) in
-    rw (c .replaced .ensures, c .before .entry-spot .ensures, goes)
+    let goes : isMarked (a .t4 .gone) (OWNED * a .p + a .k) ≡ true = not-false _ (i .if1 .left) in
+    rw (c .replaced .ensures, c .before .entry-from .ensures, goes)
 
 pub directory-gone-spec : {M : Type 1} → statement M
 directory-gone-spec =
@@ -49,6 +54,6 @@ directory-gone-spec =
     cast-i
     element-copy-out-if1
     returns
-    entry-spot-requires
+    entry-from-requires
     replaced-requires
     returns-2)

@@ -2,6 +2,7 @@
 use mathlib.Core.Path.{_≡_}
 use mathlib.Core.Bool.{true, false}
 use Prim.Native.Nat.{_+_, _*_}
+use native.Mathlib.Omega.{arith}
 use borrow.Author.Tests.{not-false, not-true}
 use borrow.Author.Needs.{needs}
 use Rattle.terms.specs.Limits.{OWNED}
@@ -24,11 +25,13 @@ element-copy-out-if1 c = search needs
 returns : tie.Need-returns
 returns c =
     let a = c .before .before .before .args in
-    let stays : isMarked (a .t3 .gone) (OWNED * a .p + a .k) ≡ false = not-true _ (c .if1 .taken) in
+    let stays : isMarked (a .t4 .gone) (OWNED * a .p + a .k) ≡ false = not-true _ (c .if1 .taken) in
     rw stays
 
-object-spot-requires : tie.Need-object-spot-requires
-object-spot-requires c κs = search needs
+object-from-requires : tie.Need-object-from-requires
+object-from-requires c κs =
+    let s = c .before .before .before in
+    (omega arith, s .pre .1 .1)
 
 replaced-requires : tie.Need-replaced-requires
 replaced-requires c κs = search needs
@@ -37,8 +40,8 @@ returns-2 : tie.Need-returns-2
 returns-2 c =
     let i = c .before .before in
     let a = i .before .before .before .args in
-    let goes : isMarked (a .t3 .gone) (OWNED * a .p + a .k) ≡ true = not-false _ (i .if1 .left) in
-    rw (c .replaced .ensures, c .before .object-spot .ensures, goes)
+    let goes : isMarked (a .t4 .gone) (OWNED * a .p + a .k) ≡ true = not-false _ (i .if1 .left) in
+    rw (c .replaced .ensures, c .before .object-from .ensures, goes)
 
 pub object-gone-spec : {M : Type 1} → statement M
 object-gone-spec =
@@ -49,6 +52,6 @@ object-gone-spec =
     cast-i
     element-copy-out-if1
     returns
-    object-spot-requires
+    object-from-requires
     replaced-requires
     returns-2)

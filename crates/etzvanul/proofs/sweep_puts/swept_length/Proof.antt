@@ -1,12 +1,16 @@
 -- `etzvanul::sweep_puts::swept_length` gives the length of the new image, change by change. The invariants: the length so far and what is left of the
--- changes make the whole, and no change makes it much longer. Assumes nothing.
+-- changes make the whole, no change makes it much longer, and the scan may go on. Assumes nothing.
 use mathlib.Core.Path.{_∙_}
 use Prim.Native.Nat.{_+_, _-_, _*_, _≤_}
 use native.Mathlib.Omega.{arith}
 use lib.ListN.{length}
+use borrow.Author.Needs.{needs}
 use Rattle.terms.specs.Limits.{OBJECTS, OWNED}
+use Rattle.image.specs.Order.{position}
 use Rattle.image.specs.Stored.{FULL}
+use Rattle.etzvanul.specs.Onward.{From, from-later}
 use Rattle.etzvanul.specs.Orderly.{lengthAfter}
+use Rattle.etzvanul.specs.SweepOnward.{first-on, object-on, directory-on, entry-on}
 use Rattle.etzvanul.proofs.Sweeping.{objectsLeft, directoriesLeft, entriesLeft}
 use Rattle.etzvanul.proofs.Sweeping.{object-next, objects-done, directory-next, directories-done, entry-next, entries-done}
 use Rattle.etzvanul.proofs.Sweeping.{Measured, cut-next, measured-on, measured-next, measured-all, sweep-measured, sweep-length}
@@ -14,34 +18,39 @@ use Rattle.etzvanul.proofs.sweep_puts.swept_length.Statement.{statement
 use Rattle.etzvanul.proofs.sweep_puts.swept_length.Tie as tie
 
 abbrev Inv-loop : tie.InvT-loop
-Inv-loop l p s n₀ i₀ n i =
+Inv-loop l p s n₀ at₀ i₀ n at i =
     (i ≤ OWNED) × Measured (length l) (lengthAfter (length l) (objectsLeft l p s 0)) (FULL + 20 * i) (objectsLeft l p s i) n
+    × From l at (position 1 (OWNED * p + i))
 
 abbrev μ-loop : tie.MeasureT-loop
-μ-loop l p s n₀ i₀ n i = OWNED - i
+μ-loop l p s n₀ at₀ i₀ n at i = OWNED - i
 
 abbrev Inv-loop2 : tie.InvT-loop2
-Inv-loop2 l p s n₀ i k₀ n k =
+Inv-loop2 l p s n₀ at₀ i k₀ n at k =
     (k ≤ OWNED) × Measured (length l) (lengthAfter (length l) (objectsLeft l p s 0)) (FULL + 160 + 20 * k) (directoriesLeft l p s k) n
+    × From l at (position 3 (OWNED * p + k))
 
 abbrev μ-loop2 : tie.MeasureT-loop2
-μ-loop2 l p s n₀ i k₀ n k = OWNED - k
+μ-loop2 l p s n₀ at₀ i k₀ n at k = OWNED - k
 
 abbrev Inv-loop3 : tie.InvT-loop3
-Inv-loop3 l p s n₀ i k o₀ n o =
+Inv-loop3 l p s n₀ at₀ i k o₀ n at o =
     (o ≤ OBJECTS) × Measured (length l) (lengthAfter (length l) (objectsLeft l p s 0)) (FULL + 320 + 20 * o) (entriesLeft l p s o) n
+    × From l at (position 4 (256 * p + o))
 
 abbrev μ-loop3 : tie.MeasureT-loop3
-μ-loop3 l p s n₀ i k o₀ n o = OBJECTS - o
+μ-loop3 l p s n₀ at₀ i k o₀ n at o = OBJECTS - o
 
 loop-holds : tie.Need-loop-holds Inv-loop μ-loop Inv-loop2 μ-loop2 Inv-loop3 μ-loop3
 loop-holds c =
     let s = c .before in
-    (omega arith, sweep-measured (s .args .l .now) (s .args .p) (s .args .s) (s .pre .1))
+    (omega arith, sweep-measured (s .args .l .now) (s .args .p) (s .args .s) (s .pre .1 .0), first-on (s .pre .1 .1))
 
 object-gone-requires :
     tie.Need-object-gone-requires Inv-loop μ-loop Inv-loop2 μ-loop2 Inv-loop3 μ-loop3
-object-gone-requires c κs = (c .before .before .before .pre .0, c .loop-test .taken)
+object-gone-requires c κs =
+    let s = c .before .before .before in
+    (s .pre .0, (c .loop-test .taken, c .before .loop .inv .2))
 
 length-with-requires :
     tie.Need-length-with-requires Inv-loop μ-loop Inv-loop2 μ-loop2 Inv-loop3 μ-loop3
@@ -52,6 +61,10 @@ length-with-requires c κs =
     let m = e .loop .inv .1 in
     (omega (arith, m .lasting .small), cut-next m (object-next (a .l .now) (a .p) (a .s) (e .loop .i) lt) (c .object-gone .ensures))
 
+place-after-requires :
+    tie.Need-place-after-requires Inv-loop μ-loop Inv-loop2 μ-loop2 Inv-loop3 μ-loop3
+place-after-requires c κs = search needs
+
 add-i : tie.Need-add-i Inv-loop μ-loop Inv-loop2 μ-loop2 Inv-loop3 μ-loop3
 add-i c = omega arith
 
@@ -60,22 +73,27 @@ loop-less c = omega arith
 
 loop-again : tie.Need-loop-again Inv-loop μ-loop Inv-loop2 μ-loop2 Inv-loop3 μ-loop3
 loop-again c =
-    let e = c .before .before .before in
-    let a = e .before .before .args in
-    let lt = c .before .before .loop-test .taken in
+    let e = c .before .before .before .before in
+    let s = e .before .before in
+    let a = s .args in
+    let lt = c .before .before .before .loop-test .taken in
+    let x = c .before .before .object-gone in
     let first = object-next (a .l .now) (a .p) (a .s) (e .loop .i) lt in
-    (omega arith, measured-on (e .loop .inv .1) first (c .before .object-gone .ensures) (c .length-with .ensures) (omega arith))
+    let onward = object-on (s .pre .1 .1) (s .pre .0) (c .place-after .ensures) (e .loop .i) lt (x .ensures) (e .loop .inv .2) in
+    (omega arith, measured-on (e .loop .inv .1) first (x .ensures) (c .before .length-with .ensures) (omega arith), onward)
 
 loop2-holds : tie.Need-loop2-holds Inv-loop μ-loop Inv-loop2 μ-loop2 Inv-loop3 μ-loop3
 loop2-holds c =
     let e = c .before in
     let a = e .before .before .args in
     let none = objects-done (a .l .now) (a .p) (a .s) (e .loop .i) (c .loop-test .left) in
-    (omega arith, measured-next (e .loop .inv .1) none (omega arith))
+    (omega arith, measured-next (e .loop .inv .1) none (omega arith), from-later (a .l .now) (e .loop .at) _ _ (omega arith) (e .loop .inv .2))
 
 directory-gone-requires :
     tie.Need-directory-gone-requires Inv-loop μ-loop Inv-loop2 μ-loop2 Inv-loop3 μ-loop3
-directory-gone-requires c κs = (c .before .before .before .before .before .pre .0, c .loop2-test .taken)
+directory-gone-requires c κs =
+    let s = c .before .before .before .before .before in
+    (s .pre .0, (c .loop2-test .taken, c .before .loop2 .inv .2))
 
 length-with-requires-2 :
     tie.Need-length-with-requires-2 Inv-loop μ-loop Inv-loop2 μ-loop2 Inv-loop3 μ-loop3
@@ -86,6 +104,10 @@ length-with-requires-2 c κs =
     let m = e .loop2 .inv .1 in
     (omega (arith, m .lasting .small), cut-next m (directory-next (a .l .now) (a .p) (a .s) (e .loop2 .k) lt) (c .directory-gone .ensures))
 
+place-after-requires-2 :
+    tie.Need-place-after-requires-2 Inv-loop μ-loop Inv-loop2 μ-loop2 Inv-loop3 μ-loop3
+place-after-requires-2 c κs = search needs
+
 add-k : tie.Need-add-k Inv-loop μ-loop Inv-loop2 μ-loop2 Inv-loop3 μ-loop3
 add-k c = omega arith
 
@@ -94,22 +116,27 @@ loop2-less c = omega arith
 
 loop2-again : tie.Need-loop2-again Inv-loop μ-loop Inv-loop2 μ-loop2 Inv-loop3 μ-loop3
 loop2-again c =
-    let e = c .before .before .before in
-    let a = e .before .before .before .before .args in
-    let lt = c .before .before .loop2-test .taken in
+    let e = c .before .before .before .before in
+    let s = e .before .before .before .before in
+    let a = s .args in
+    let lt = c .before .before .before .loop2-test .taken in
+    let x = c .before .before .directory-gone in
     let first = directory-next (a .l .now) (a .p) (a .s) (e .loop2 .k) lt in
-    (omega arith, measured-on (e .loop2 .inv .1) first (c .before .directory-gone .ensures) (c .length-with2 .ensures) (omega arith))
+    let onward = directory-on (s .pre .1 .1) (s .pre .0) (c .place-after2 .ensures) (e .loop2 .k) lt (x .ensures) (e .loop2 .inv .2) in
+    (omega arith, measured-on (e .loop2 .inv .1) first (x .ensures) (c .before .length-with2 .ensures) (omega arith), onward)
 
 loop3-holds : tie.Need-loop3-holds Inv-loop μ-loop Inv-loop2 μ-loop2 Inv-loop3 μ-loop3
 loop3-holds c =
     let e = c .before in
     let a = e .before .before .before .before .args in
     let none = directories-done (a .l .now) (a .p) (a .s) (e .loop2 .k) (c .loop2-test .left) in
-    (omega arith, measured-next (e .loop2 .inv .1) none (omega arith))
+    (omega arith, measured-next (e .loop2 .inv .1) none (omega arith), from-later (a .l .now) (e .loop2 .at) _ _ (omega arith) (e .loop2 .inv .2))
 
 entry-unused-requires :
     tie.Need-entry-unused-requires Inv-loop μ-loop Inv-loop2 μ-loop2 Inv-loop3 μ-loop3
-entry-unused-requires c κs = c .loop3-test .taken
+entry-unused-requires c κs =
+    let s = c .before .before .before .before .before .before .before in
+    (s .pre .0, (c .loop3-test .taken, (c .before .loop3 .inv .2, s .pre .1 .1)))
 
 length-with-requires-3 :
     tie.Need-length-with-requires-3 Inv-loop μ-loop Inv-loop2 μ-loop2 Inv-loop3 μ-loop3
@@ -120,6 +147,10 @@ length-with-requires-3 c κs =
     let m = e .loop3 .inv .1 in
     (omega (arith, m .lasting .small), cut-next m (entry-next (a .l .now) (a .p) (a .s) (e .loop3 .o) lt) (c .entry-unused .ensures))
 
+place-after-requires-3 :
+    tie.Need-place-after-requires-3 Inv-loop μ-loop Inv-loop2 μ-loop2 Inv-loop3 μ-loop3
+place-after-requires-3 c κs = search needs
+
 add-o : tie.Need-add-o Inv-loop μ-loop Inv-loop2 μ-loop2 Inv-loop3 μ-loop3
 add-o c = omega arith
 
@@ -128,11 +159,14 @@ loop3-less c = omega arith
 
 loop3-again : tie.Need-loop3-again Inv-loop μ-loop Inv-loop2 μ-loop2 Inv-loop3 μ-loop3
 loop3-again c =
-    let e = c .before .before .before in
-    let a = e .before .before .before .before .before .before .args in
-    let lt = c .before .before .loop3-test .taken in
+    let e = c .before .before .before .before in
+    let s = e .before .before .before .before .before .before in
+    let a = s .args in
+    let lt = c .before .before .before .loop3-test .taken in
+    let x = c .before .before .entry-unused in
     let first = entry-next (a .l .now) (a .p) (a .s) (e .loop3 .o) lt in
-    (omega arith, measured-on (e .loop3 .inv .1) first (c .before .entry-unused .ensures) (c .length-with3 .ensures) (omega arith))
+    let onward = entry-on (s .pre .1 .1) (s .pre .0) (c .place-after3 .ensures) (e .loop3 .o) lt (x .ensures) (e .loop3 .inv .2) in
+    (omega arith, measured-on (e .loop3 .inv .1) first (x .ensures) (c .before .length-with3 .ensures) (omega arith), onward)
 
 returns : tie.Need-returns Inv-loop μ-loop Inv-loop2 μ-loop2 Inv-loop3 μ-loop3
 returns c =
@@ -140,7 +174,7 @@ returns c =
     let s = e .before .before .before .before .before .before in
     let a = s .args in
     let none = entries-done (a .l .now) (a .p) (a .s) (e .loop3 .o) (c .loop3-test .left) in
-    λ count. measured-all (e .loop3 .inv .1) none ∙ sweep-length (a .l .now) (a .p) (a .s) (s .pre .1) count
+    λ count. measured-all (e .loop3 .inv .1) none ∙ sweep-length (a .l .now) (a .p) (a .s) (s .pre .1 .0) count
 
 pub swept-length-spec : {M : Type 1} → statement M
 swept-length-spec =
@@ -155,18 +189,21 @@ swept-length-spec =
     loop-holds
     object-gone-requires
     length-with-requires
+    place-after-requires
     add-i
     loop-less
     loop-again
     loop2-holds
     directory-gone-requires
     length-with-requires-2
+    place-after-requires-2
     add-k
     loop2-less
     loop2-again
     loop3-holds
     entry-unused-requires
     length-with-requires-3
+    place-after-requires-3
     add-o
     loop3-less
     loop3-again
