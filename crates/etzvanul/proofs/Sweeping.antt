@@ -139,8 +139,8 @@ module _ {n whole most : ℕ} {cs : List Change} {m : ℕ} (g : Measured n whole
         left = g .left;
       })
 
-  pub measured-all : cs ≡ [] → m ≡ whole
-  measured-all is = ap (lengthAfter m) (sym is) ∙ g .left
+  pub measured-left : {more : List Change} → cs ≡ more → lengthAfter m more ≡ whole
+  measured-left is = ap (lengthAfter m) (sym is) ∙ g .left
 
 module _ (l : List ℕ) (p : ℕ) (s : Sweep) (pre : (length l ≤ FULL) × Orderly 0 (sweepChanges 0 l p s) (length l)) where
   pub sweep-measured : Measured (length l) (lengthAfter (length l) (objectsLeft l p s 0)) FULL (objectsLeft l p s 0) (length l)

@@ -8,10 +8,12 @@ use lib.Dec.{eqb}
 use lib.ListN.{getD-replicate}
 use borrow.Author.Tests.{eq-eqb}
 use Rattle.terms.specs.Choose.{if_then_else_, _and_}
+use Rattle.terms.specs.ChooseLaws.{and-passes}
 use Rattle.terms.specs.Counted.{howMany, list}
 use Rattle.terms.specs.Limits.{NODES, OBJECTS, OWNED, owner}
 use Rattle.terms.specs.ListLaws.{getD-list}
 use Rattle.terms.specs.Numbers.{ACCEPTED, TORN}
+use Rattle.entry.specs.Entry.{isPresent}
 use Rattle.heap.specs.declared.Heap.{Heap}
 use Rattle.heap.specs.Walk.{Marks, isMarked, ownedBy}
 use Rattle.image.specs.declared.Held.{Held}
@@ -26,22 +28,21 @@ use Rattle.etzvanul.specs.declared.Change.the-variants.{Same}
 use Rattle.etzvanul.specs.declared.Sweep.{Sweep}
 use Rattle.etzvanul.specs.Onward.{From, Scannable, from-later, own-position}
 use Rattle.etzvanul.specs.Orderly.{passed}
-use Rattle.etzvanul.specs.Plan.{at}
-use Rattle.etzvanul.specs.Sweep.{objectGone, directoryGone, entryUnused, heldIn, refusedSweep, sweepOf, sweepWith}
+use Rattle.etzvanul.specs.Plan.{at, entryOf}
+use Rattle.etzvanul.specs.Sweep.{objectGone, directoryGone, entryUnused, heldIn, presentIn, refusedSweep, sweepOf, sweepWith}
 
--- what the lookups rely on: the scans may go on, and of its own objects, whose directories stand further in front, the node has no unused entries
+-- what the lookups rely on: the scans may go on, and what is no longer used are entries of other nodes' objects, which stand behind all
+-- directories, with Presence true
 pub record Resumes (l : List ℕ) (p : ℕ) (s : Sweep) : Type 0 where
   pub scan : Scannable l
   pub others : (o : ℕ) → o < OBJECTS → isMarked (s .unused) o ≡ true → p ≡ owner o → ⊥
+  pub present : (o : ℕ) → o < OBJECTS → isMarked (s .unused) o ≡ true → isPresent (entryOf l p o) ≡ true
 
 -- ---- so it is with what COLLECT decides
 
-module _ (x : Heap) (present marks : Marks) (p o : ℕ) (lt : o < OBJECTS) (own : p ≡ owner o) where
+module _ (x : Heap) (present marks : Marks) (p o : ℕ) (lt : o < OBJECTS) where
   abbrev test : ℕ → Bool
   test k = not (ownedBy p k) and not (isMarked (heldIn x marks p) k) and isMarked present k
-
-  no-own : test o ≡ false
-  no-own = rw (eq-eqb (owner o) p (sym own))
 
   abbrev swept : Sweep
   swept = record {
@@ -51,20 +52,34 @@ module _ (x : Heap) (present marks : Marks) (p o : ℕ) (lt : o < OBJECTS) (own 
     unused = list OBJECTS test;
   }
 
-  own-used : isMarked (sweepWith x present marks p .unused) o ≡ false
+  tested : isMarked (sweepWith x present marks p .unused) o ≡ true → test o ≡ true
   unfolding sweepWith
-  own-used = go (not (isWhole x p present marks))
+  tested = go (not (isWhole x p present marks))
     where
-      go : (b : Bool) → isMarked ((if b then refusedSweep TORN else swept) .unused) o ≡ false
-      go true = getD-replicate OBJECTS o false false lt
-      go false = getD-list OBJECTS test o false lt ∙ no-own
+      go : (b : Bool) → isMarked ((if b then refusedSweep TORN else swept) .unused) o ≡ true → test o ≡ true
+      go true marked = absurd (false≢true (sym (getD-replicate OBJECTS o false false lt) ∙ marked))
+      go false marked = sym (getD-list OBJECTS test o false lt) ∙ marked
+
+  -- of no own object, whose test fails
+  unused-other : isMarked (sweepWith x present marks p .unused) o ≡ true → p ≡ owner o → ⊥
+  unused-other marked own = false≢true (rw (eq-eqb (owner o) p (sym own)) at (tested marked))
+
+  unused-present : isMarked (sweepWith x present marks p .unused) o ≡ true → isMarked present o ≡ true
+  unused-present marked =
+      let unheld = not (isMarked (heldIn x marks p) o) in
+      and-passes unheld (isMarked present o) .0 (and-passes (not (ownedBy p o)) (unheld and isMarked present o) .0 (tested marked) .1) .1
 
 pub resumes : (l : List ℕ) (p : ℕ) (s : Sweep) → Scannable l → s ≡ sweepOf l p → Resumes l p s
-unfolding sweepOf
+unfolding sweepOf presentIn
 resumes l p s scan is = record {
   scan = scan;
-  others = λ o lt marked own. false≢true (sym (own-used _ _ _ p o lt own) ∙ ap (λ (x : Sweep). isMarked (x .unused) o) (sym is) ∙ marked);
+  others = λ o lt marked. unused-other _ _ _ p o lt (sym (same o) ∙ marked);
+  present = λ o lt marked.
+      sym (getD-list OBJECTS (λ k. isPresent (entryOf l p k)) o false lt) ∙ unused-present _ (presentIn l p) _ p o lt (sym (same o) ∙ marked);
 }
+  where
+    same : (o : ℕ) → isMarked (s .unused) o ≡ isMarked (sweepOf l p .unused) o
+    same o = ap (λ (x : Sweep). isMarked (x .unused) o) is
 
 -- ---- how a scan goes on behind a change
 

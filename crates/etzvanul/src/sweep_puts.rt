@@ -129,7 +129,7 @@ pub(crate) fn put_sweep(out: &mut [u8], l: &[u8], count: u32, p: u8, s: Sweep)
     copy_part(out, to, l, from, rest);
 }
 
-// How long it is; the record of the event count is as long as it was.
+// How long it is; the record of the event count and the entries that are no longer used are as long as they were.
 pub(crate) fn swept_length(l: &[u8], p: u8, s: Sweep) -> usize
     requires { ⌜ p < NODES ⌝ }
     requires { ⌜ (length (now l) ≤ FULL) × Orderly 0 (sweepChanges 0 (now l) p s) (length (now l)) ⌝ }
@@ -151,13 +151,6 @@ pub(crate) fn swept_length(l: &[u8], p: u8, s: Sweep) -> usize
         n = length_with(n, c);
         at = place_after(at, c);
         k += 1;
-    }
-    let mut o: u8 = 0;
-    while o < Heap::OBJECTS {
-        let c = entry_unused(l, at, p, s, o);
-        n = length_with(n, c);
-        at = place_after(at, c);
-        o += 1;
     }
     n
 }

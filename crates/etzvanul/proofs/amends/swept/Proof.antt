@@ -33,7 +33,8 @@ returns-2 c =
     let s = c .before .before .before .before .before .before in
     let a = s .args in
     let size = c .before .swept-length .ensures (a .n) in
-    call-short (a .s .answer) (Collected (a .s .reclaimed)) (sweptImage (a .n) (a .image .now) (a .p) (a .s)) (a .out .now) (c .before .before .if1 .left)
+    let new = sweptImage (a .n) (a .image .now) (a .p) (a .s) in
+    call-short (a .s .answer) (Collected (a .s .reclaimed)) new (a .out .now) (c .before .before .if1 .left)
     (omega (arith, size, c .if2 .taken))
 
 put-sweep-requires : tie.Need-put-sweep-requires

@@ -1,5 +1,5 @@
--- `etzvanul::sweep_puts::put_sweep` puts the new image: the event count, each change, and the rest. The invariants: what is left of the changes makes
--- the buffer what it is to be, and a scan may go on from there. Assumes nothing.
+-- `etzvanul::sweep_puts::put_sweep` puts the new image: the event count, each change, and the rest. The invariants: what is left of the changes
+-- makes the buffer what it is to be, and a scan may go on from there. Assumes nothing.
 use mathlib.Core.Path.{ap, _∙_}
 use Prim.Native.Nat.{_+_, _-_, _*_, _≤_}
 use native.Mathlib.Omega.{arith}

@@ -1,19 +1,21 @@
--- `etzvanul::sweep_puts::swept_length` gives the length of the new image, change by change. The invariants: the length so far and what is left of the
--- changes make the whole, no change makes it much longer, and the scan may go on. Assumes nothing.
-use mathlib.Core.Path.{_∙_}
+-- `etzvanul::sweep_puts::swept_length` gives the length of the new image, change by change up to the entries, which keep theirs. The
+-- invariants: the length so far and what is left of the changes make the whole, no change makes it much longer, and the scan may go on.
+-- Assumes nothing.
+use mathlib.Core.Path.{sym, _∙_}
 use Prim.Native.Nat.{_+_, _-_, _*_, _≤_}
 use native.Mathlib.Omega.{arith}
 use lib.ListN.{length}
 use borrow.Author.Needs.{needs}
-use Rattle.terms.specs.Limits.{OBJECTS, OWNED}
+use Rattle.terms.specs.Limits.{OWNED}
 use Rattle.image.specs.Order.{position}
 use Rattle.image.specs.Stored.{FULL}
 use Rattle.etzvanul.specs.Onward.{From, from-later}
 use Rattle.etzvanul.specs.Orderly.{lengthAfter}
-use Rattle.etzvanul.specs.SweepOnward.{first-on, object-on, directory-on, entry-on}
-use Rattle.etzvanul.proofs.Sweeping.{objectsLeft, directoriesLeft, entriesLeft}
-use Rattle.etzvanul.proofs.Sweeping.{object-next, objects-done, directory-next, directories-done, entry-next, entries-done}
-use Rattle.etzvanul.proofs.Sweeping.{Measured, cut-next, measured-on, measured-next, measured-all, sweep-measured, sweep-length}
+use Rattle.etzvanul.specs.SweepOnward.{first-on, object-on, directory-on}
+use Rattle.etzvanul.specs.SweptLength.{unused-all}
+use Rattle.etzvanul.proofs.Sweeping.{objectsLeft, directoriesLeft}
+use Rattle.etzvanul.proofs.Sweeping.{object-next, objects-done, directory-next, directories-done}
+use Rattle.etzvanul.proofs.Sweeping.{Measured, cut-next, measured-on, measured-next, measured-left, sweep-measured, sweep-length}
 use Rattle.etzvanul.proofs.sweep_puts.swept_length.Statement.{statement}
 use Rattle.etzvanul.proofs.sweep_puts.swept_length.Tie as tie
 
@@ -33,27 +35,19 @@ Inv-loop2 l p s n₀ at₀ i k₀ n at k =
 abbrev μ-loop2 : tie.MeasureT-loop2
 μ-loop2 l p s n₀ at₀ i k₀ n at k = OWNED - k
 
-abbrev Inv-loop3 : tie.InvT-loop3
-Inv-loop3 l p s n₀ at₀ i k o₀ n at o =
-    (o ≤ OBJECTS) × Measured (length l) (lengthAfter (length l) (objectsLeft l p s 0)) (FULL + 320 + 20 * o) (entriesLeft l p s o) n
-    × From l at (position 4 (256 * p + o))
-
-abbrev μ-loop3 : tie.MeasureT-loop3
-μ-loop3 l p s n₀ at₀ i k o₀ n at o = OBJECTS - o
-
-loop-holds : tie.Need-loop-holds Inv-loop μ-loop Inv-loop2 μ-loop2 Inv-loop3 μ-loop3
+loop-holds : tie.Need-loop-holds Inv-loop μ-loop Inv-loop2 μ-loop2
 loop-holds c =
     let s = c .before in
     (omega arith, sweep-measured (s .args .l .now) (s .args .p) (s .args .s) (s .pre .1 .0), first-on (s .pre .1 .1))
 
 object-gone-requires :
-    tie.Need-object-gone-requires Inv-loop μ-loop Inv-loop2 μ-loop2 Inv-loop3 μ-loop3
+    tie.Need-object-gone-requires Inv-loop μ-loop Inv-loop2 μ-loop2
 object-gone-requires c κs =
     let s = c .before .before .before in
     (s .pre .0, (c .loop-test .taken, c .before .loop .inv .2))
 
 length-with-requires :
-    tie.Need-length-with-requires Inv-loop μ-loop Inv-loop2 μ-loop2 Inv-loop3 μ-loop3
+    tie.Need-length-with-requires Inv-loop μ-loop Inv-loop2 μ-loop2
 length-with-requires c κs =
     let e = c .before .before in
     let a = e .before .before .args in
@@ -62,16 +56,16 @@ length-with-requires c κs =
     (omega (arith, m .lasting .small), cut-next m (object-next (a .l .now) (a .p) (a .s) (e .loop .i) lt) (c .object-gone .ensures))
 
 place-after-requires :
-    tie.Need-place-after-requires Inv-loop μ-loop Inv-loop2 μ-loop2 Inv-loop3 μ-loop3
+    tie.Need-place-after-requires Inv-loop μ-loop Inv-loop2 μ-loop2
 place-after-requires c κs = search needs
 
-add-i : tie.Need-add-i Inv-loop μ-loop Inv-loop2 μ-loop2 Inv-loop3 μ-loop3
+add-i : tie.Need-add-i Inv-loop μ-loop Inv-loop2 μ-loop2
 add-i c = omega arith
 
-loop-less : tie.Need-loop-less Inv-loop μ-loop Inv-loop2 μ-loop2 Inv-loop3 μ-loop3
+loop-less : tie.Need-loop-less Inv-loop μ-loop Inv-loop2 μ-loop2
 loop-less c = omega arith
 
-loop-again : tie.Need-loop-again Inv-loop μ-loop Inv-loop2 μ-loop2 Inv-loop3 μ-loop3
+loop-again : tie.Need-loop-again Inv-loop μ-loop Inv-loop2 μ-loop2
 loop-again c =
     let e = c .before .before .before .before in
     let s = e .before .before in
@@ -82,7 +76,7 @@ loop-again c =
     let onward = object-on (s .pre .1 .1) (s .pre .0) (c .place-after .ensures) (e .loop .i) lt (x .ensures) (e .loop .inv .2) in
     (omega arith, measured-on (e .loop .inv .1) first (x .ensures) (c .before .length-with .ensures) (omega arith), onward)
 
-loop2-holds : tie.Need-loop2-holds Inv-loop μ-loop Inv-loop2 μ-loop2 Inv-loop3 μ-loop3
+loop2-holds : tie.Need-loop2-holds Inv-loop μ-loop Inv-loop2 μ-loop2
 loop2-holds c =
     let e = c .before in
     let a = e .before .before .args in
@@ -90,13 +84,13 @@ loop2-holds c =
     (omega arith, measured-next (e .loop .inv .1) none (omega arith), from-later (a .l .now) (e .loop .at) _ _ (omega arith) (e .loop .inv .2))
 
 directory-gone-requires :
-    tie.Need-directory-gone-requires Inv-loop μ-loop Inv-loop2 μ-loop2 Inv-loop3 μ-loop3
+    tie.Need-directory-gone-requires Inv-loop μ-loop Inv-loop2 μ-loop2
 directory-gone-requires c κs =
     let s = c .before .before .before .before .before in
     (s .pre .0, (c .loop2-test .taken, c .before .loop2 .inv .2))
 
 length-with-requires-2 :
-    tie.Need-length-with-requires-2 Inv-loop μ-loop Inv-loop2 μ-loop2 Inv-loop3 μ-loop3
+    tie.Need-length-with-requires-2 Inv-loop μ-loop Inv-loop2 μ-loop2
 length-with-requires-2 c κs =
     let e = c .before .before in
     let a = e .before .before .before .before .args in
@@ -105,16 +99,16 @@ length-with-requires-2 c κs =
     (omega (arith, m .lasting .small), cut-next m (directory-next (a .l .now) (a .p) (a .s) (e .loop2 .k) lt) (c .directory-gone .ensures))
 
 place-after-requires-2 :
-    tie.Need-place-after-requires-2 Inv-loop μ-loop Inv-loop2 μ-loop2 Inv-loop3 μ-loop3
+    tie.Need-place-after-requires-2 Inv-loop μ-loop Inv-loop2 μ-loop2
 place-after-requires-2 c κs = search needs
 
-add-k : tie.Need-add-k Inv-loop μ-loop Inv-loop2 μ-loop2 Inv-loop3 μ-loop3
+add-k : tie.Need-add-k Inv-loop μ-loop Inv-loop2 μ-loop2
 add-k c = omega arith
 
-loop2-less : tie.Need-loop2-less Inv-loop μ-loop Inv-loop2 μ-loop2 Inv-loop3 μ-loop3
+loop2-less : tie.Need-loop2-less Inv-loop μ-loop Inv-loop2 μ-loop2
 loop2-less c = omega arith
 
-loop2-again : tie.Need-loop2-again Inv-loop μ-loop Inv-loop2 μ-loop2 Inv-loop3 μ-loop3
+loop2-again : tie.Need-loop2-again Inv-loop μ-loop Inv-loop2 μ-loop2
 loop2-again c =
     let e = c .before .before .before .before in
     let s = e .before .before .before .before in
@@ -125,56 +119,14 @@ loop2-again c =
     let onward = directory-on (s .pre .1 .1) (s .pre .0) (c .place-after2 .ensures) (e .loop2 .k) lt (x .ensures) (e .loop2 .inv .2) in
     (omega arith, measured-on (e .loop2 .inv .1) first (x .ensures) (c .before .length-with2 .ensures) (omega arith), onward)
 
-loop3-holds : tie.Need-loop3-holds Inv-loop μ-loop Inv-loop2 μ-loop2 Inv-loop3 μ-loop3
-loop3-holds c =
-    let e = c .before in
-    let a = e .before .before .before .before .args in
-    let none = directories-done (a .l .now) (a .p) (a .s) (e .loop2 .k) (c .loop2-test .left) in
-    (omega arith, measured-next (e .loop2 .inv .1) none (omega arith), from-later (a .l .now) (e .loop2 .at) _ _ (omega arith) (e .loop2 .inv .2))
-
-entry-unused-requires :
-    tie.Need-entry-unused-requires Inv-loop μ-loop Inv-loop2 μ-loop2 Inv-loop3 μ-loop3
-entry-unused-requires c κs =
-    let s = c .before .before .before .before .before .before .before in
-    (s .pre .0, (c .loop3-test .taken, (c .before .loop3 .inv .2, s .pre .1 .1)))
-
-length-with-requires-3 :
-    tie.Need-length-with-requires-3 Inv-loop μ-loop Inv-loop2 μ-loop2 Inv-loop3 μ-loop3
-length-with-requires-3 c κs =
-    let e = c .before .before in
-    let a = e .before .before .before .before .before .before .args in
-    let lt = c .before .loop3-test .taken in
-    let m = e .loop3 .inv .1 in
-    (omega (arith, m .lasting .small), cut-next m (entry-next (a .l .now) (a .p) (a .s) (e .loop3 .o) lt) (c .entry-unused .ensures))
-
-place-after-requires-3 :
-    tie.Need-place-after-requires-3 Inv-loop μ-loop Inv-loop2 μ-loop2 Inv-loop3 μ-loop3
-place-after-requires-3 c κs = search needs
-
-add-o : tie.Need-add-o Inv-loop μ-loop Inv-loop2 μ-loop2 Inv-loop3 μ-loop3
-add-o c = omega arith
-
-loop3-less : tie.Need-loop3-less Inv-loop μ-loop Inv-loop2 μ-loop2 Inv-loop3 μ-loop3
-loop3-less c = omega arith
-
-loop3-again : tie.Need-loop3-again Inv-loop μ-loop Inv-loop2 μ-loop2 Inv-loop3 μ-loop3
-loop3-again c =
-    let e = c .before .before .before .before in
-    let s = e .before .before .before .before .before .before in
-    let a = s .args in
-    let lt = c .before .before .before .loop3-test .taken in
-    let x = c .before .before .entry-unused in
-    let first = entry-next (a .l .now) (a .p) (a .s) (e .loop3 .o) lt in
-    let onward = entry-on (s .pre .1 .1) (s .pre .0) (c .place-after3 .ensures) (e .loop3 .o) lt (x .ensures) (e .loop3 .inv .2) in
-    (omega arith, measured-on (e .loop3 .inv .1) first (x .ensures) (c .before .length-with3 .ensures) (omega arith), onward)
-
-returns : tie.Need-returns Inv-loop μ-loop Inv-loop2 μ-loop2 Inv-loop3 μ-loop3
+returns : tie.Need-returns Inv-loop μ-loop Inv-loop2 μ-loop2
 returns c =
     let e = c .before in
-    let s = e .before .before .before .before .before .before in
+    let s = e .before .before .before .before in
     let a = s .args in
-    let none = entries-done (a .l .now) (a .p) (a .s) (e .loop3 .o) (c .loop3-test .left) in
-    λ count. measured-all (e .loop3 .inv .1) none ∙ sweep-length (a .l .now) (a .p) (a .s) (s .pre .1 .0) count
+    let none = directories-done (a .l .now) (a .p) (a .s) (e .loop2 .k) (c .loop2-test .left) in
+    let n = sym (unused-all (s .pre .1 .1) (e .loop2 .n)) ∙ measured-left (e .loop2 .inv .1) none in
+    λ count. n ∙ sweep-length (a .l .now) (a .p) (a .s) (s .pre .1 .0) count
 
 pub swept-length-spec : {M : Type 1} → statement M
 swept-length-spec =
@@ -184,8 +136,6 @@ swept-length-spec =
     μ-loop
     Inv-loop2
     μ-loop2
-    Inv-loop3
-    μ-loop3
     loop-holds
     object-gone-requires
     length-with-requires
@@ -200,11 +150,4 @@ swept-length-spec =
     add-k
     loop2-less
     loop2-again
-    loop3-holds
-    entry-unused-requires
-    length-with-requires-3
-    place-after-requires-3
-    add-o
-    loop3-less
-    loop3-again
     returns)
