@@ -97,12 +97,6 @@ module _ {whole l : List ℕ} {cs more : List Change} {from to : ℕ} {out : Lis
 
 -- ---- the length
 
--- the event count does not matter to the order
-pub any-count : (m n : ℕ) (l : List ℕ) (p : ℕ) (s : Sweep) → Orderly 0 (sweepChanges m l p s) (length l)
-    → Orderly 0 (sweepChanges n l p s) (length l)
-unfolding sweepChanges
-any-count m n l p s o = o
-
 -- the length so far and the changes left make the whole
 pub record Measured (n whole most : ℕ) (cs : List Change) (m : ℕ) : Type 0 where
   pub from : ℕ

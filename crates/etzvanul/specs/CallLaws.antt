@@ -20,7 +20,7 @@ use Rattle.image.specs.Writer.{image, putAnswer, putLength, putBytes}
 use Rattle.table.specs.declared.Table.{Table}
 use Rattle.table.specs.Depth.{depthReport}
 use Rattle.table.specs.Table.{freshTable}
-use Rattle.etzvanul.specs.HostCall.{Called, refusedCall, done, callWith, callOn, callAfter, called, numberOfCall, numberIn, bufferIn, hostNumber, hostBytes, startCall, startNumber, startBytes, depthCall}
+use Rattle.etzvanul.specs.HostCall.{Called, refusedCall, done, callWith, callOn, callAfter, called, numberOfCall, numberIn, bufferIn, startCall, startNumber, startBytes, depthCall}
 
 -- ---- what comes back
 
@@ -99,33 +99,6 @@ module _ (old event out : List ℕ) where
             → called old event out ≡ done (valueOf (outcome .deed)) (image (outcome .table))
         unfolding called callAfter callOn callWith
         all-done room = rw (eq-eqb (read old .answer) ACCEPTED accepted, whole, eq-eqb (outcome .answer) ACCEPTED taken, room)
-
--- ---- and then the writer's answer
-
-module _ (old event out : List ℕ) (accepted : read old .answer ≡ ACCEPTED) (whole : isRecord event ≡ true) where
-  module _ (o : Outcome) (is : o ≡ outcome old event out) (taken : o .answer ≡ ACCEPTED) where
-    taken-there : outcome old event out .answer ≡ ACCEPTED
-    taken-there = sym (ap (λ (x : Outcome). x .answer) is) ∙ taken
-
-    -- refused: its number, and the buffer stays
-    pub written-not : (answer : ℕ) (buffer : List ℕ) → answer ≡ putAnswer (o .table) out → buffer ≡ putBytes (o .table) out → answer ≢ ACCEPTED
-        → (answer ≡ hostNumber old event out) × (buffer ≡ hostBytes old event out)
-    unfolding hostNumber hostBytes
-    written-not answer buffer number bytes bad =
-        let (short, room, stays) = put-refused (o .table) out (λ e. bad (number ∙ e)) in
-        let (back, left) = refusal (called old event out) out ROOM (no-room old event out accepted whole taken-there (rw is at short)) in
-        (number ∙ room ∙ back, bytes ∙ stays ∙ left)
-
-    -- accepted: value and length, and the image at the front
-    pub written : (answer size value : ℕ) (buffer : List ℕ) → answer ≡ putAnswer (o .table) out → size ≡ putLength (o .table) out
-        → buffer ≡ putBytes (o .table) out → answer ≡ ACCEPTED → value ≡ valueOf (o .deed)
-        → (numberOfCall ACCEPTED value size ≡ hostNumber old event out) × (buffer ≡ hostBytes old event out)
-    unfolding hostNumber hostBytes
-    written answer size value buffer number long bytes good worth =
-        let (room, all, front) = put-done (o .table) out (sym number ∙ good) in
-        let (back, left) = success (called old event out) out (valueOf (o .deed)) (image (o .table))
-        (all-done old event out accepted whole taken-there (rw is at room) ∙ ap (λ (x : Outcome). done (valueOf (x .deed)) (image (x .table))) (sym is)) in
-        (ap (λ (v : ℕ). numberOfCall ACCEPTED v size) worth ∙ ap (numberOfCall ACCEPTED (valueOf (o .deed))) (long ∙ all) ∙ back, bytes ∙ front ∙ left)
 
 -- ---- the fresh image
 

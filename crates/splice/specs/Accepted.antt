@@ -1,9 +1,9 @@
--- What a scan over an accepted image tells of the table that it is the image of, and the image of that table changed: all that a call needs
--- which never makes the table (document 01, "Saved image"). Assumes nothing.
+-- What a scan over an accepted image tells of the table that it is the image of: all that a call needs which never makes the table
+-- (document 01, "Saved image"). Assumes nothing.
 use mathlib.Core.Path.{_≡_, sym, ap, subst, _∙_}
 use mathlib.Core.Bool.{true}
 use mathlib.Core.List.{List}
-use Prim.Native.Nat.{ℕ, suc, _+_, _≤_, _<_}
+use Prim.Native.Nat.{ℕ, suc, _+_, _<_}
 use native.Mathlib.Omega.{arith}
 use lib.Dec.{eqb}
 use lib.ListN.{length}
@@ -23,12 +23,9 @@ use Rattle.image.specs.Reader.{read}
 use Rattle.image.specs.RoundTrip.{read-good, image-read}
 use Rattle.image.specs.Spots.{Spot, count, object, roots, message, spotPosition}
 use Rattle.image.specs.Writer.{messageRecord, recordsOf, bytesOfAll, image}
-use Rattle.splice.specs.Bytes.{offset-within, patchedBytes, spot-small}
 use Rattle.splice.specs.Changed.{entrySpot, entry-within}
-use Rattle.splice.specs.Image.{records-fit, image-patched}
 use Rattle.splice.specs.Lookup.{told, count-found, object-found, roots-found, entry-found, message-found, size-found}
 use Rattle.splice.specs.Parts.{found}
-use Rattle.splice.specs.Patched.{Change, Differs}
 use Rattle.splice.specs.Seen.{seen-found, offset-after}
 use Rattle.splice.specs.Spread.{Within, found-at}
 
@@ -73,14 +70,6 @@ module _ (l : List ℕ) (are : AreBytes l) (accepted : read l .answer ≡ ACCEPT
 
   -- ---- where it stands
 
-  -- in the image
-  pub seen-within : (s : Spot) → Within s → offset (spotPosition s) l ≤ length l
-  unfolding image
-  seen-within s in′ =
-      let small = spot-small s in′ in
-      subst (λ (x : List ℕ). offset (spotPosition s) x ≤ length x) same
-      (offset-within (spotPosition s) (omega arith) (recordsOf t) (records-fit t (good .formed) fits))
-
   -- from where the scan stops to where the next position begins
   pub place-told : (s : Spot) → Within s → (foundFrom 0 (spotPosition s) l .at ≡ offset (spotPosition s) l)
       × (foundFrom 0 (spotPosition s) l .after ≡ offset (suc (spotPosition s)) l)
@@ -102,8 +91,3 @@ module _ (l : List ℕ) (are : AreBytes l) (accepted : read l .answer ≡ ACCEPT
       go n m.Empty = sym (eq-eqb n (n + 0) (omega arith))
       go n (m.Reference from to o) = sym (ne-eqb n (n + 8) (λ e. omega arith))
       go n (m.Decrement from to o k w) = sym (ne-eqb n (n + 16) (λ e. omega arith))
-
-  -- ---- the image of another table
-
-  pub accepted-patched : {cs : List Change} {u : Table} → Differs cs t u → image u ≡ patchedBytes cs l
-  accepted-patched {cs} d = image-patched (good .formed) fits d ∙ ap (patchedBytes cs) same

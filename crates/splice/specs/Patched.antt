@@ -174,7 +174,3 @@ differs-records {cs} {t} {u} d =
 -- the tables agree at all other positions than that of the spot
 abbrev pub OnlyAt : Spot → Table → Table → Type 0
 OnlyAt s t u = (x : Spot) → (spotPosition x ≡ spotPosition s → ⊥) → recordAt u x ≡ recordAt t x
-
--- so one change is all
-pub only-differs : {s : Spot} {rs : List Record} {t u : Table} → Within s → recordAt u s ≡ rs → OnlyAt s t u → Differs (change s rs ∷ []) t u
-only-differs in′ here only = record { ascends = (omega arith, (in′, tt)); stands = (here, tt); same = λ x out. only x (out .0) }

@@ -262,7 +262,3 @@ joined-rise t n (s ∷ l) up =
     rising-lower n (spotPosition s) (leb-true n (spotPosition s) (p .0)) (recordAt t s ++ joined (recordAt t) l ending)
     (rising-append (spotPosition s) (recordAt t s) (joined (recordAt t) l ending) (placed t s) (at-most-one t s)
     (joined-rise t (suc (spotPosition s)) l (p .1)))
-
--- the records of a table stand in the order of their positions, one at each
-pub records-rise : (t : Table) → Rising 0 (recordsOf t)
-records-rise t = rw (records-joined t) (joined-rise t 0 spots spots-rise)
