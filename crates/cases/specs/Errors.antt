@@ -69,8 +69,8 @@ isAbove (negsuc n) = false
 -- COLLECT with another test for where a directory makes it start
 abbrev pub collectStarting : (Entry → Bool) → Table → ℕ → Rule
 collectStarting test t p =
-    collectKeeping t p
-    (reached (t .heap) (ownedBy p) (rootsOf (t .heap) p ++ gather OWNED (λ k. if test (entryAt t p (OWNED * p + k)) then (OWNED * p + k) ∷ [] else [])))
+    let start : ℕ → List ℕ = λ o. if test (entryAt t p o) then o ∷ [] else [] in
+    collectKeeping t p (reached (t .heap) (ownedBy p) (rootsOf (t .heap) p ++ gather OWNED (λ k. start (OWNED * p + k))))
 
 -- a table that was loaded, not run: object 0 is live, no root names it, its directory has RC 0 and MsgCtr -1
 unfoldable pub owing : Table

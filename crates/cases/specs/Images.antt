@@ -67,7 +67,9 @@ both-read = (refl, refl)
 -- ---- a host's first calls
 
 -- the fresh image in a buffer of just its length, and in one that is too short
-pub start : (startNumber (replicate 116 7) ≡ 116 * 16777216) × (startBytes (replicate 116 7) ≡ image freshTable) × (startNumber (replicate 115 7) ≡ ROOM)
+pub start : (startNumber (replicate 116 7) ≡ 116 * 16777216)
+    × (startBytes (replicate 116 7) ≡ image freshTable)
+    × (startNumber (replicate 115 7) ≡ ROOM)
 unfolding rules
 start = (refl, refl, refl)
 

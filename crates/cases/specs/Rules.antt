@@ -27,9 +27,55 @@ use Rattle.run.specs.Next.{next}
 use Rattle.run.specs.Ran.{ran, runBytes}
 use Rattle.run.specs.Run.{summary, line, lastLine, runFrom, runText, endFrom, runEnd}
 use Rattle.run.specs.Text.{decimal}
-use Rattle.etzvanul.specs.HostCall.{callWith, callOn, callAfter, called, hostNumber, hostBytes, startCall, startNumber, startBytes, checkNumber, depthCall}
+use Rattle.etzvanul.specs.HostCall.{callWith, callOn, callAfter, called, hostNumber, hostBytes}
+use Rattle.etzvanul.specs.HostCall.{startCall, startNumber, startBytes, checkNumber, depthCall}
 
--- its value is of no use; what its line names is what a case opens
+-- the value of each of these is of no use; what its line names is what a case opens
+
+unfoldable counting : Type 1
+unfolding everyFrom lowestFrom sumFrom listFrom gatherFrom holds all
+counting = Type 0
+
+unfoldable acts : Type 1
+unfolding directorySent directoryCameHome directorySettled remoteSent remoteSentHome remoteReceivedAgain remoteSettled
+acts = Type 0
+
+unfoldable entries : Type 1
+unfolding acts holderSent sent received settled mayGo fitsDirectory fitsRemote fitsEntry
+entries = Type 0
+
+unfoldable heaps : Type 1
+unfolding fitsObject fitsRoots fitsHeap mark heldBy pointed rounds reached
+heaps = Type 0
+
+unfoldable tables : Type 1
+unfolding depthBy depthReport fitsCell fitsMessage fitsTable
+tables = Type 0
+
+unfoldable collecting : Type 1
+unfolding counted collectTorn heapCollected cellCollected collectHolding collectKeeping
+collecting = Type 0
+
+unfoldable events : Type 1
+unfolding collecting clear dropOf kindOf fitsEvent load move new receiveOf send settleOf ruleFor step store
+events = Type 0
+
+unfoldable reading : Type 1
+unfolding fitsRecord withRecord recordOf readFrom read kindOfCode
+reading = Type 0
+
+unfoldable writing : Type 1
+unfolding recordsOf bytesOfAll image putAnswer putLength putBytes writeAnswer writeLength writeBytes
+writing = Type 0
+
+unfoldable runs : Type 1
+unfolding next ran runBytes summary line lastLine runFrom runText endFrom runEnd decimal
+runs = Type 0
+
+unfoldable calls : Type 1
+unfolding callWith callOn callAfter called hostNumber hostBytes startCall startNumber startBytes checkNumber depthCall
+calls = Type 0
+
 unfoldable pub rules : Type 1
-unfolding everyFrom lowestFrom sumFrom listFrom gatherFrom holds all directorySent directoryCameHome directorySettled remoteSent remoteSentHome remoteReceivedAgain remoteSettled holderSent sent received settled mayGo fitsDirectory fitsRemote fitsEntry fitsObject fitsRoots fitsHeap mark heldBy pointed rounds reached depthBy depthReport fitsCell fitsMessage fitsTable clear counted collectTorn heapCollected cellCollected collectHolding collectKeeping dropOf kindOf fitsEvent load move new receiveOf send settleOf ruleFor step store fitsRecord withRecord recordOf readFrom read kindOfCode recordsOf bytesOfAll image putAnswer putLength putBytes writeAnswer writeLength writeBytes next ran runBytes summary line lastLine runFrom runText endFrom runEnd decimal callWith callOn callAfter called hostNumber hostBytes startCall startNumber startBytes checkNumber depthCall
+unfolding counting entries heaps tables events reading writing runs calls
 rules = Type 0

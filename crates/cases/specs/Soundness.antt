@@ -21,15 +21,20 @@ use Rattle.step.specs.declared.Event.{Event}
 use Rattle.step.specs.Event.{event, NEW}
 use Rattle.step.specs.Step.{step}
 use Rattle.laws.specs.LawB.{totalFrom}
-use Rattle.laws.specs.SoundTest.{isSound, passesA, passesB, passesC, passesCounts, passesDirectories, passesFields, passesOwed, passesReferences, passesReturns, passesRoots}
+use Rattle.laws.specs.SoundTest.{isSound, passesA, passesB, passesC, passesCounts, passesDirectories}
+use Rattle.laws.specs.SoundTest.{passesFields, passesOwed, passesReferences, passesReturns, passesRoots}
 use Rattle.cases.specs.Edges.{afterAll}
 use Rattle.cases.specs.Errors.{returningTable}
 use Rattle.cases.specs.Rules.{rules}
 use Rattle.cases.specs.Twelve.{twelve}
 
--- opens the whole test, as `rules` opens the rules
+-- opens the parts of the test, and with them the whole of it, as `rules` opens the rules
+unfoldable parts : Type 1
+unfolding totalFrom passesA passesB passesC passesRoots passesFields passesDirectories passesReferences passesCounts passesReturns passesOwed
+parts = Type 0
+
 unfoldable test : Type 1
-unfolding rules totalFrom isSound passesA passesB passesC passesRoots passesFields passesDirectories passesReferences passesCounts passesReturns passesOwed
+unfolding rules parts isSound
 test = Type 0
 
 -- ---- the run of twelve events

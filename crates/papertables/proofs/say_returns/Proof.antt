@@ -34,8 +34,12 @@ opposite (negsuc n) told low =
 opposite-fits : (z : ℤ) → SFits w32 z → ltZ (kept z) (pos 0) ≡ true → SFits w64 (pos 0 -ℤ toZ w64 (ofZ w64 (kept z)))
 opposite-fits z told low = rw (toZ-ofZ told, toZ-ofZ (wider z told)) (opposite z told (rw (toZ-ofZ told) at low) .0)
 
+-- as it is read back from 64 bits
+abbrev turned : ℤ → ℤ
+turned z = toZ w64 (ofZ w64 (pos 0 -ℤ toZ w64 (ofZ w64 (kept z))))
+
 opposite-natural : (z : ℤ) → SFits w32 z → ltZ (kept z) (pos 0) ≡ true
-    → T (nonNeg (toZ w64 (ofZ w64 (pos 0 -ℤ toZ w64 (ofZ w64 (kept z)))))) × Fits w64 (natAbs (toZ w64 (ofZ w64 (pos 0 -ℤ toZ w64 (ofZ w64 (kept z))))))
+    → T (nonNeg (turned z)) × Fits w64 (natAbs (turned z))
 opposite-natural z told low =
     let o = opposite z told (rw (toZ-ofZ told) at low) in
     rw (toZ-ofZ told, toZ-ofZ (wider z told), toZ-ofZ (o .0)) (o .1, o .2)
@@ -58,10 +62,14 @@ cast-below : tie.Need-cast-below
 cast-below c = wide (c .before .before .before .before .args .c .0) (record { sfits = c .before .before .before .struct-told .given .0 .1 })
 
 sub-below : tie.Need-sub-below
-sub-below c = opposite-fits (c .before .before .before .before .args .c .0) (record { sfits = c .before .before .before .struct-told .given .0 .1 }) (c .before .before .if1 .taken)
+sub-below c =
+    let told = c .before .before .before in
+    opposite-fits (told .before .args .c .0) (record { sfits = told .struct-told .given .0 .1 }) (c .before .before .if1 .taken)
 
 cast-print-decimal : tie.Need-cast-print-decimal
-cast-print-decimal c = opposite-natural (c .before .before .before .before .args .c .0) (record { sfits = c .before .before .before .struct-told .given .0 .1 }) (c .before .before .if1 .taken)
+cast-print-decimal c =
+    let told = c .before .before .before in
+    opposite-natural (told .before .args .c .0) (record { sfits = told .struct-told .given .0 .1 }) (c .before .before .if1 .taken)
 
 print-decimal-requires : tie.Need-print-decimal-requires
 print-decimal-requires c κs = search needs
