@@ -1,0 +1,39 @@
+-- `writer::entry_records::put_owners` puts the record of a directory. Assumes nothing.
+use native.Mathlib.Omega.{arith}
+use Rattle.image.specs.StoredLaws.{stored-both}
+use Rattle.image.specs.Writer.{bytesOfAll}
+use borrow.Author.Needs.{needs}
+use Rattle.writer.proofs.entry_records.put_owners.Statement.{statement}
+use Rattle.writer.proofs.entry_records.put_owners.Tie as tie
+
+store-head-requires : tie.Need-store-head-requires
+store-head-requires c κs = search needs
+
+store-byte-requires : tie.Need-store-byte-requires
+store-byte-requires c κs = search needs
+
+store-number-requires : tie.Need-store-number-requires
+store-number-requires c κs = search needs
+
+store-returns-requires : tie.Need-store-returns-requires
+store-returns-requires c κs = search needs
+
+returns : tie.Need-returns
+unfolding bytesOfAll
+returns c =
+    let count = c .before .before in
+    let object = count .before .before in
+    let head = object .before .before in
+    let front = stored-both (head .store-head .ensures) (object .store-byte .ensures) in
+    let all = stored-both (stored-both front (count .store-number .ensures)) (c .store-returns .ensures) in
+    record { stored = all; small = omega (arith, all .place) }
+
+pub put-owners-spec : {M : Type 1} → statement M
+put-owners-spec =
+    tie.close
+    (tie.spec
+    store-head-requires
+    store-byte-requires
+    store-number-requires
+    store-returns-requires
+    returns)

@@ -1,0 +1,122 @@
+-- `writer::heap_records::put_heap` puts the live objects and the roots. The loops' invariants: what is passed so far is put. Assumes nothing.
+use mathlib.Core.Path.{_≡_}
+use Prim.Native.Nat.{ℕ, _-_, _*_, _≤_}
+use mathlib.Core.List.{List}
+use native.Mathlib.Omega.{arith}
+use Rattle.terms.specs.Counted.{gather}
+use Rattle.image.specs.Records.{Record}
+use Rattle.image.specs.StoredLaws.{put-start, put-more, put-both}
+use Rattle.terms.specs.Limits.{NODES, OBJECTS}
+use Rattle.heap.specs.declared.Heap.{Heap}
+use Rattle.heap.specs.Heap.{objectAt, rootsAt}
+use Rattle.image.specs.Stored.{OBJECT-BYTES, ROOTS-BYTES, Put, liveRecord, nodeRecord}
+use borrow.Author.Needs.{needs}
+use Rattle.writer.proofs.heap_records.put_heap.Statement.{statement}
+use Rattle.writer.proofs.heap_records.put_heap.Tie as tie
+
+abbrev live : Heap → ℕ → List Record
+live h = λ o. liveRecord o (objectAt h o)
+
+abbrev node : Heap → ℕ → List Record
+node h = λ p. nodeRecord p (rootsAt h p)
+
+abbrev Inv-loop : tie.InvT-loop
+Inv-loop out₀ from h at₀ o₀ out at o = (o ≤ OBJECTS) × Put (OBJECT-BYTES * o) (gather o (live h)) out₀ at₀ out at
+
+abbrev μ-loop : tie.MeasureT-loop
+μ-loop out₀ from h at₀ o₀ out at o = OBJECTS - o
+
+abbrev Inv-loop2 : tie.InvT-loop2
+Inv-loop2 out₀ from h at₀ o p₀ out at p = (p ≤ NODES) × Put (ROOTS-BYTES * p) (gather p (node h)) out₀ at₀ out at
+
+abbrev μ-loop2 : tie.MeasureT-loop2
+μ-loop2 out₀ from h at₀ o p₀ out at p = NODES - p
+
+loop-holds : tie.Need-loop-holds Inv-loop μ-loop Inv-loop2 μ-loop2
+loop-holds c = (omega arith, put-start OBJECT-BYTES (live (c .args .t3)) _ _)
+
+cast-k : tie.Need-cast-k Inv-loop μ-loop Inv-loop2 μ-loop2
+cast-k c = search needs
+
+mul-x : tie.Need-mul-x Inv-loop μ-loop Inv-loop2 μ-loop2
+mul-x c = search needs
+
+element-copy-out-x : tie.Need-element-copy-out-x Inv-loop μ-loop Inv-loop2 μ-loop2
+element-copy-out-x c = search needs
+
+put-object-requires : tie.Need-put-object-requires Inv-loop μ-loop Inv-loop2 μ-loop2
+put-object-requires c κs = omega (arith, c .before .before .before .loop .inv .1 .small, c .before .before .before .before .pre)
+
+add-o : tie.Need-add-o Inv-loop μ-loop Inv-loop2 μ-loop2
+add-o c = search needs
+
+loop-less : tie.Need-loop-less Inv-loop μ-loop Inv-loop2 μ-loop2
+loop-less c = omega arith
+
+loop-again : tie.Need-loop-again Inv-loop μ-loop Inv-loop2 μ-loop2
+loop-again c =
+    let h = c .before .before .before .before in
+    (omega arith, put-more OBJECT-BYTES (live (h .before .args .t3)) (h .loop .o) (h .loop .inv .1) (c .put-object .ensures))
+
+loop2-holds : tie.Need-loop2-holds Inv-loop μ-loop Inv-loop2 μ-loop2
+loop2-holds c = (omega arith, put-start ROOTS-BYTES (node (c .before .before .args .t3)) _ _)
+
+cast-k-2 : tie.Need-cast-k-2 Inv-loop μ-loop Inv-loop2 μ-loop2
+cast-k-2 c = search needs
+
+mul-x-2 : tie.Need-mul-x-2 Inv-loop μ-loop Inv-loop2 μ-loop2
+mul-x-2 c = search needs
+
+element-copy-out-x-2 : tie.Need-element-copy-out-x-2 Inv-loop μ-loop Inv-loop2 μ-loop2
+element-copy-out-x-2 c = search needs
+
+put-roots-requires : tie.Need-put-roots-requires Inv-loop μ-loop Inv-loop2 μ-loop2
+put-roots-requires c κs =
+    let nodes = c .before .before .before in
+    let objects = nodes .before .before in
+    omega (arith, nodes .loop2 .inv .1 .small, objects .loop .inv .1 .small, objects .before .pre)
+
+add-p : tie.Need-add-p Inv-loop μ-loop Inv-loop2 μ-loop2
+add-p c = search needs
+
+loop2-less : tie.Need-loop2-less Inv-loop μ-loop Inv-loop2 μ-loop2
+loop2-less c = omega arith
+
+loop2-again : tie.Need-loop2-again Inv-loop μ-loop Inv-loop2 μ-loop2
+loop2-again c =
+    let h = c .before .before .before .before in
+    (omega arith, put-more ROOTS-BYTES (node (h .before .before .before .args .t3)) (h .loop2 .p) (h .loop2 .inv .1) (c .put-roots .ensures))
+
+returns : tie.Need-returns Inv-loop μ-loop Inv-loop2 μ-loop2
+returns c =
+    let objects = c .before .before .before .loop in
+    let roots = c .before .loop2 in
+    let all-objects : objects .o ≡ OBJECTS = omega arith in
+    let all-roots : roots .p ≡ NODES = omega arith in
+    put-both (rw all-objects at (objects .inv .1)) (rw all-roots at (roots .inv .1))
+
+pub put-heap-spec : {M : Type 1} → statement M
+put-heap-spec =
+    tie.close
+    (tie.spec
+    Inv-loop
+    μ-loop
+    Inv-loop2
+    μ-loop2
+    loop-holds
+    cast-k
+    mul-x
+    element-copy-out-x
+    put-object-requires
+    add-o
+    loop-less
+    loop-again
+    loop2-holds
+    cast-k-2
+    mul-x-2
+    element-copy-out-x-2
+    put-roots-requires
+    add-p
+    loop2-less
+    loop2-again
+    returns)

@@ -1,0 +1,22 @@
+-- `writer::message_records::put_reference` puts the record of a reference in the air. Assumes nothing.
+use native.Mathlib.Omega.{arith}
+use Rattle.image.specs.StoredLaws.{stored-both}
+use Rattle.image.specs.Writer.{bytesOfAll}
+use borrow.Author.Needs.{needs}
+use Rattle.writer.proofs.message_records.put_reference.Statement.{statement}
+use Rattle.writer.proofs.message_records.put_reference.Tie as tie
+
+store-head-requires : tie.Need-store-head-requires
+store-head-requires c κs = search needs
+
+store-four-requires : tie.Need-store-four-requires
+store-four-requires c κs = search needs
+
+returns : tie.Need-returns
+unfolding bytesOfAll
+returns c =
+    let all = stored-both (c .before .before .store-head .ensures) (c .store-four .ensures) in
+    record { stored = all; small = omega (arith, all .place) }
+
+pub put-reference-spec : {M : Type 1} → statement M
+put-reference-spec = tie.close (tie.spec store-head-requires store-four-requires returns)

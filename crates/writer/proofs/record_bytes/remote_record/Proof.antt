@@ -1,0 +1,103 @@
+-- `writer::record_bytes::remote_record` makes the record of an entry that isn't the owner's. Assumes nothing.
+use mathlib.Core.Path.{refl}
+use Prim.Native.Nat.{_<_}
+use native.Mathlib.Nat.{mod-eq-of-lt}
+use native.Mathlib.Omega.{arith}
+use Rattle.image.specs.Writer.{bytesOfAll}
+use Rattle.terms.specs.Counted.{one}
+use borrow.Author.Needs.{needs}
+use Rattle.writer.proofs.record_bytes.remote_record.Statement.{statement}
+use Rattle.writer.proofs.record_bytes.remote_record.Tie as tie
+
+one-if-requires : tie.Need-one-if-requires
+one-if-requires c κs = search needs
+
+bits-of-requires : tie.Need-bits-of-requires
+bits-of-requires c κs = search needs
+
+byte-0-requires : tie.Need-byte-0-requires
+byte-0-requires c κs = search needs
+
+byte-1-requires : tie.Need-byte-1-requires
+byte-1-requires c κs = search needs
+
+byte-2-requires : tie.Need-byte-2-requires
+byte-2-requires c κs = search needs
+
+byte-3-requires : tie.Need-byte-3-requires
+byte-3-requires c κs = search needs
+
+byte-0-requires-2 : tie.Need-byte-0-requires-2
+byte-0-requires-2 c κs = search needs
+
+byte-1-requires-2 : tie.Need-byte-1-requires-2
+byte-1-requires-2 c κs = search needs
+
+byte-2-requires-2 : tie.Need-byte-2-requires-2
+byte-2-requires-2 c κs = search needs
+
+byte-3-requires-2 : tie.Need-byte-3-requires-2
+byte-3-requires-2 c κs = search needs
+
+byte-0-requires-3 : tie.Need-byte-0-requires-3
+byte-0-requires-3 c κs = search needs
+
+byte-1-requires-3 : tie.Need-byte-1-requires-3
+byte-1-requires-3 c κs = search needs
+
+byte-2-requires-3 : tie.Need-byte-2-requires-3
+byte-2-requires-3 c κs = search needs
+
+byte-3-requires-3 : tie.Need-byte-3-requires-3
+byte-3-requires-3 c κs = search needs
+
+returns : tie.Need-returns
+unfolding bytesOfAll
+returns c =
+    let d2 = c .before in
+    let d1 = d2 .before in
+    let d0 = d1 .before in
+    let c3 = d0 .before in
+    let c2 = c3 .before in
+    let c1 = c2 .before in
+    let c0 = c1 .before in
+    let b3 = c0 .before in
+    let b2 = b3 .before in
+    let b1 = b2 .before in
+    let b0 = b1 .before in
+    let told = b0 .before in
+    let present = told .before .before .before in
+    let x = present .before .args in
+    let p : x .p < 256 = omega arith in
+    let o : x .o < 256 = omega arith in
+    let parent : x .e .parent < 256 = omega (arith, present .before .good .1 .1 .0 .1 .1 .1 .0) in
+    let there : one (x .e .presence) < 256 = omega arith in
+    record {
+      room = refl;
+      small = omega arith;
+      size = refl;
+      front = rw (c .byte-33 .ensures, d2 .byte-23 .ensures, d1 .byte-13 .ensures, d0 .byte-03 .ensures)
+          (rw (c3 .byte-32 .ensures, c2 .byte-22 .ensures, c1 .byte-12 .ensures, c0 .byte-02 .ensures)
+          (rw (b3 .byte-3 .ensures, b2 .byte-2 .ensures, b1 .byte-1 .ensures, b0 .byte-0 .ensures, told .bits-of .ensures)
+          (rw (present .one-if .ensures, mod-eq-of-lt p, mod-eq-of-lt o, mod-eq-of-lt parent, mod-eq-of-lt there))));
+    }
+
+pub remote-record-spec : {M : Type 1} → statement M
+remote-record-spec =
+    tie.close
+    (tie.spec
+    one-if-requires
+    bits-of-requires
+    byte-0-requires
+    byte-1-requires
+    byte-2-requires
+    byte-3-requires
+    byte-0-requires-2
+    byte-1-requires-2
+    byte-2-requires-2
+    byte-3-requires-2
+    byte-0-requires-3
+    byte-1-requires-3
+    byte-2-requires-3
+    byte-3-requires-3
+    returns)
