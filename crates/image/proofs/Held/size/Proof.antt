@@ -4,45 +4,9 @@ use borrow.Author.Needs.{needs}
 use Rattle.image.proofs.Held.size.Statement.{statement}
 use Rattle.image.proofs.Held.size.Tie as tie
 
-enum-told : tie.Need-enum-told
-enum-told c = search needs
-
-enum-known-self : tie.Need-enum-known-self
-enum-known-self c = search needs
-
-enum-known-self-2 : tie.Need-enum-known-self-2
-enum-known-self-2 c = search needs
-
 returns : tie.Need-returns
 unfolding sizeOf
 returns c = simp (c .before .before .self2 .given .1, c .if1 .taken)
-
-enum-known-self-3 : tie.Need-enum-known-self-3
-enum-known-self-3 c = search needs
-
-enum-known-self-4 : tie.Need-enum-known-self-4
-enum-known-self-4 c = search needs
-
-enum-told-2 : tie.Need-enum-told-2
-enum-told-2 c = search needs
-
-enum-known-e : tie.Need-enum-known-e
-enum-known-e c = search needs
-
-enum-known-e-2 : tie.Need-enum-known-e-2
-enum-known-e-2 c = search needs
-
-enum-known-self-5 : tie.Need-enum-known-self-5
-enum-known-self-5 c = search needs
-
-enum-told-3 : tie.Need-enum-told-3
-enum-told-3 c = search needs
-
-enum-known-m : tie.Need-enum-known-m
-enum-known-m c = search needs
-
-enum-known-m-2 : tie.Need-enum-known-m-2
-enum-known-m-2 c = search needs
 
 returns-2 : tie.Need-returns-2
 unfolding sizeOf
@@ -86,28 +50,8 @@ returns-11 c = rw (c .before .before .before .before .self5 .given .1, c .before
 
 pub size-spec : {M : Type 1} → statement M
 size-spec =
-    tie.close
-    (tie.spec
-    enum-told
-    enum-known-self
-    enum-known-self-2
-    returns
-    enum-known-self-3
-    enum-known-self-4
-    enum-told-2
-    enum-known-e
-    enum-known-e-2
-    enum-known-self-5
-    enum-told-3
-    enum-known-m
-    enum-known-m-2
-    returns-2
-    returns-3
-    returns-4
-    returns-5
-    returns-6
-    returns-7
-    returns-8
-    returns-9
-    returns-10
-    returns-11)
+    tie.close (tie.spec
+    (λ c. search needs) (λ c. search needs) (λ c. search needs) returns (λ c. search needs) (λ c. search needs)
+    (λ c. search needs) (λ c. search needs) (λ c. search needs) (λ c. search needs) (λ c. search needs)
+    (λ c. search needs) (λ c. search needs) returns-2 returns-3 returns-4 returns-5 returns-6 returns-7 returns-8
+    returns-9 returns-10 returns-11)

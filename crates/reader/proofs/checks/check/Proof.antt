@@ -38,34 +38,16 @@ front c = found (all c) (at c) (now c) (c .front-of .result) (c .front-of .ensur
 loop-holds : tie.Need-loop-holds Inv-loop μ-loop
 loop-holds c = at-start (c .before .args .bytes .now)
 
-sub-rest : tie.Need-sub-rest Inv-loop μ-loop
-sub-rest c = search needs
-
-part-rest-start : tie.Need-part-rest-start Inv-loop μ-loop
-part-rest-start c = search needs
-
-part-rest-end : tie.Need-part-rest-end Inv-loop μ-loop
-part-rest-end c = search needs
-
-front-of-requires : tie.Need-front-of-requires Inv-loop μ-loop
-front-of-requires c κs = search needs
-
 add-at : tie.Need-add-at Inv-loop μ-loop
 add-at c =
     let w = c .before .before in
     let start = w .before .before .before .before in
     omega (arith, inside (all w) (at w) (now w) (w .front-of .result) (w .before .before .loop .inv .reading .within) (front w), start .good)
 
-enum-told : tie.Need-enum-told Inv-loop μ-loop
-enum-told c = search needs
-
 returns : tie.Need-returns Inv-loop μ-loop
 returns c =
     let w = c .before .before .before .before in
     sym (accepted (w .before .before .loop .inv) (w .front-of .result) (front w) (c .enum-told .given .1))
-
-enum-told-2 : tie.Need-enum-told-2 Inv-loop μ-loop
-enum-told-2 c = search needs
 
 returns-2 : tie.Need-returns-2 Inv-loop μ-loop
 returns-2 c =
@@ -80,19 +62,6 @@ loop-again c = let w = c .before .before .before in further (w .before .before .
 
 pub check-spec : {M : Type 1} → statement M
 check-spec =
-    tie.close
-    (tie.spec
-    Inv-loop
-    μ-loop
-    loop-holds
-    sub-rest
-    part-rest-start
-    part-rest-end
-    front-of-requires
-    add-at
-    enum-told
-    returns
-    enum-told-2
-    returns-2
-    loop-less
-    loop-again)
+    tie.close (tie.spec
+    Inv-loop μ-loop loop-holds (λ c. search needs) (λ c. search needs) (λ c. search needs) (λ c κs. search needs) add-at
+    (λ c. search needs) returns (λ c. search needs) returns-2 loop-less loop-again)

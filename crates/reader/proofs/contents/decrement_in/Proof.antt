@@ -13,21 +13,6 @@ use Rattle.reader.proofs.contents.decrement_in.Tie as tie
 abbrev place : List ℕ → Place
 place ns = record { held = decrementMessage ns }
 
-shared-slice-read-t4 : tie.Need-shared-slice-read-t4
-shared-slice-read-t4 c = search needs
-
-shared-slice-read-t6 : tie.Need-shared-slice-read-t6
-shared-slice-read-t6 c = search needs
-
-shared-slice-read-t8 : tie.Need-shared-slice-read-t8
-shared-slice-read-t8 c = search needs
-
-returns-at-requires : tie.Need-returns-at-requires
-returns-at-requires c κs = search needs
-
-number-at-requires : tie.Need-number-at-requires
-number-at-requires c κs = search needs
-
 returns : tie.Need-returns
 returns c =
     let l = c .before .before .before .before .before .before .args .l .now in
@@ -35,11 +20,5 @@ returns c =
 
 pub decrement-in-spec : {M : Type 1} → statement M
 decrement-in-spec =
-    tie.close
-    (tie.spec
-    shared-slice-read-t4
-    shared-slice-read-t6
-    shared-slice-read-t8
-    returns-at-requires
-    number-at-requires
-    returns)
+    tie.close (tie.spec
+    (λ c. search needs) (λ c. search needs) (λ c. search needs) (λ c κs. search needs) (λ c κs. search needs) returns)

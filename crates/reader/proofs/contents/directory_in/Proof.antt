@@ -6,16 +6,10 @@ use borrow.Author.Needs.{needs}
 use Rattle.reader.proofs.contents.directory_in.Statement.{statement}
 use Rattle.reader.proofs.contents.directory_in.Tie as tie
 
-number-at-requires : tie.Need-number-at-requires
-number-at-requires c κs = search needs
-
-returns-at-requires : tie.Need-returns-at-requires
-returns-at-requires c κs = search needs
-
 returns : tie.Need-returns
 returns c =
     let l = c .before .before .before .args .l .now in
     rw (c .returns-at .ensures, c .before .number-at .ensures) (sym (ap directoryEntry (directory-numbers l)))
 
 pub directory-in-spec : {M : Type 1} → statement M
-directory-in-spec = tie.close (tie.spec number-at-requires returns-at-requires returns)
+directory-in-spec = tie.close (tie.spec (λ c κs. search needs) (λ c κs. search needs) returns)

@@ -4,12 +4,9 @@ use borrow.Author.Needs.{needs}
 use Rattle.reader.proofs.contents.fits_count.Statement.{statement}
 use Rattle.reader.proofs.contents.fits_count.Tie as tie
 
-number-at-requires : tie.Need-number-at-requires
-number-at-requires c κs = search needs
-
 returns : tie.Need-returns
 unfolding fitsRecord
 returns c = simp (c .number-at .ensures)
 
 pub fits-count-spec : {M : Type 1} → statement M
-fits-count-spec = tie.close (tie.spec number-at-requires returns)
+fits-count-spec = tie.close (tie.spec (λ c κs. search needs) returns)

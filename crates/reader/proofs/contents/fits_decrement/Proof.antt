@@ -6,18 +6,9 @@ use borrow.Author.Needs.{needs}
 use Rattle.reader.proofs.contents.fits_decrement.Statement.{statement}
 use Rattle.reader.proofs.contents.fits_decrement.Tie as tie
 
-shared-slice-read-if1 : tie.Need-shared-slice-read-if1
-shared-slice-read-if1 c = search needs
-
 returns : tie.Need-returns
 unfolding fitsRecord
 returns c = simp (byte-at, le-ltb _ _ (c .if1 .taken))
-
-decrement-in-requires : tie.Need-decrement-in-requires
-decrement-in-requires c κs = search needs
-
-fits-requires : tie.Need-fits-requires
-fits-requires c κs = search needs
 
 returns-2 : tie.Need-returns-2
 unfolding fitsRecord
@@ -25,5 +16,4 @@ returns-2 c = simp (c .fits2 .ensures, c .before .decrement-in .ensures, byte-at
 
 pub fits-decrement-spec : {M : Type 1} → statement M
 fits-decrement-spec =
-    tie.close
-    (tie.spec shared-slice-read-if1 returns decrement-in-requires fits-requires returns-2)
+    tie.close (tie.spec (λ c. search needs) returns (λ c κs. search needs) (λ c κs. search needs) returns-2)

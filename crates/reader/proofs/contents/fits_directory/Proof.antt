@@ -6,18 +6,9 @@ use borrow.Author.Needs.{needs}
 use Rattle.reader.proofs.contents.fits_directory.Statement.{statement}
 use Rattle.reader.proofs.contents.fits_directory.Tie as tie
 
-shared-slice-read-o : tie.Need-shared-slice-read-o
-shared-slice-read-o c = search needs
-
 returns : tie.Need-returns
 unfolding fitsRecord
 returns c = simp (byte-at, le-ltb _ _ (c .if1 .taken))
-
-directory-in-requires : tie.Need-directory-in-requires
-directory-in-requires c κs = search needs
-
-fits-requires : tie.Need-fits-requires
-fits-requires c κs = search needs
 
 returns-2 : tie.Need-returns-2
 unfolding fitsRecord
@@ -25,4 +16,4 @@ returns-2 c = simp (c .fits2 .ensures, c .before .directory-in .ensures, byte-at
 
 pub fits-directory-spec : {M : Type 1} → statement M
 fits-directory-spec =
-    tie.close (tie.spec shared-slice-read-o returns directory-in-requires fits-requires returns-2)
+    tie.close (tie.spec (λ c. search needs) returns (λ c κs. search needs) (λ c κs. search needs) returns-2)

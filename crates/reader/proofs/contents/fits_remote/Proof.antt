@@ -6,12 +6,6 @@ use borrow.Author.Needs.{needs}
 use Rattle.reader.proofs.contents.fits_remote.Statement.{statement}
 use Rattle.reader.proofs.contents.fits_remote.Tie as tie
 
-shared-slice-read-p : tie.Need-shared-slice-read-p
-shared-slice-read-p c = search needs
-
-shared-slice-read-o : tie.Need-shared-slice-read-o
-shared-slice-read-o c = search needs
-
 returns : tie.Need-returns
 unfolding fitsRecord
 returns c = rw (remote-node (c .before .before .before .before .args .l .now), le-ltb _ _ (c .if1 .taken))
@@ -21,9 +15,6 @@ unfolding fitsRecord
 returns-2 c =
     let l = c .before .before .before .before .before .args .l .now in
     rw (remote-node l, remote-object l, lt-ltb _ _ (c .before .if1 .left), le-ltb _ _ (c .if2 .taken))
-
-shared-slice-read-if3 : tie.Need-shared-slice-read-if3
-shared-slice-read-if3 c = search needs
 
 returns-3 : tie.Need-returns-3
 unfolding fitsRecord
@@ -38,12 +29,6 @@ returns-3 c =
       lt-ltb _ _ (o .if2 .left),
       lt-leb _ _ (c .if3 .taken),
     )
-
-remote-in-requires : tie.Need-remote-in-requires
-remote-in-requires c κs = search needs
-
-fits-requires : tie.Need-fits-requires
-fits-requires c κs = search needs
 
 returns-4 : tie.Need-returns-4
 unfolding fitsRecord
@@ -64,14 +49,6 @@ returns-4 c =
 
 pub fits-remote-spec : {M : Type 1} → statement M
 fits-remote-spec =
-    tie.close
-    (tie.spec
-    shared-slice-read-p
-    shared-slice-read-o
-    returns
-    returns-2
-    shared-slice-read-if3
-    returns-3
-    remote-in-requires
-    fits-requires
-    returns-4)
+    tie.close (tie.spec
+    (λ c. search needs) (λ c. search needs) returns returns-2 (λ c. search needs) returns-3 (λ c κs. search needs)
+    (λ c κs. search needs) returns-4)

@@ -13,18 +13,9 @@ use Rattle.reader.proofs.contents.reference_in.Tie as tie
 abbrev place : List ℕ → Place
 place ns = record { held = referenceMessage ns }
 
-shared-slice-read-t4 : tie.Need-shared-slice-read-t4
-shared-slice-read-t4 c = search needs
-
-shared-slice-read-t6 : tie.Need-shared-slice-read-t6
-shared-slice-read-t6 c = search needs
-
-shared-slice-read-t8 : tie.Need-shared-slice-read-t8
-shared-slice-read-t8 c = search needs
-
 returns : tie.Need-returns
 returns c = sym (ap place (reference-numbers (c .before .before .before .args .l .now)))
 
 pub reference-in-spec : {M : Type 1} → statement M
 reference-in-spec =
-    tie.close (tie.spec shared-slice-read-t4 shared-slice-read-t6 shared-slice-read-t8 returns)
+    tie.close (tie.spec (λ c. search needs) (λ c. search needs) (λ c. search needs) returns)

@@ -7,15 +7,9 @@ use Rattle.reader.proofs.Layers.{behind}
 use Rattle.reader.proofs.contents.trails.Statement.{statement}
 use Rattle.reader.proofs.contents.trails.Tie as tie
 
-is-end-requires : tie.Need-is-end-requires
-is-end-requires c κs = search needs
-
 returns : tie.Need-returns
 returns c =
     let a = c .before .before .before .args in rw (is-end (a .kind) (sym (c .before .is-end .ensures) ∙ c .if1 .taken)) (behind HEAD (a .l .now))
 
-returns-2 : tie.Need-returns-2
-returns-2 c = search needs
-
 pub trails-spec : {M : Type 1} → statement M
-trails-spec = tie.close (tie.spec is-end-requires returns returns-2)
+trails-spec = tie.close (tie.spec (λ c κs. search needs) returns (λ c. search needs))

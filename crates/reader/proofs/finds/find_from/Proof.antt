@@ -42,35 +42,17 @@ add-loop c = record { fits = omega (arith, c .loop .inv .within, c .before .befo
 add-kind-of-low : tie.Need-add-kind-of-low Inv-loop μ-loop
 add-kind-of-low c = record { fits = omega (arith, room c) }
 
-shared-slice-read-kind-of-low : tie.Need-shared-slice-read-kind-of-low Inv-loop μ-loop
-shared-slice-read-kind-of-low c = omega arith
-
-kind-of-low-requires : tie.Need-kind-of-low-requires Inv-loop μ-loop
-kind-of-low-requires c κs = search needs
-
 add-place-of : tie.Need-add-place-of Inv-loop μ-loop
 add-place-of c = record { fits = omega (arith, room (c .before .before)) }
 
-shared-slice-read-place-of : tie.Need-shared-slice-read-place-of Inv-loop μ-loop
-shared-slice-read-place-of c = omega arith
-
 add-place-of-2 : tie.Need-add-place-of-2 Inv-loop μ-loop
 add-place-of-2 c = record { fits = omega (arith, room (c .before .before .before)) }
-
-shared-slice-read-place-of-2 : tie.Need-shared-slice-read-place-of-2 Inv-loop μ-loop
-shared-slice-read-place-of-2 c = omega arith
-
-place-of-requires : tie.Need-place-of-requires Inv-loop μ-loop
-place-of-requires c κs = search needs
 
 returns-2 : tie.Need-returns-2 Inv-loop μ-loop
 returns-2 c =
     let h = c .before .before .before .before .before .before in
     stopped (h .before .loop .inv) (h .loop-test .taken) _ (c .before .before .before .before .kind-of-low .ensures) _ (c .before .place-of .ensures)
     (c .if2 .taken)
-
-length-of-requires : tie.Need-length-of-requires Inv-loop μ-loop
-length-of-requires c κs = search needs
 
 add-at : tie.Need-add-at Inv-loop μ-loop
 add-at c = record { fits = omega (arith, small c) }
@@ -93,25 +75,7 @@ returns-3 c = ended (c .before .loop .inv) (c .loop-test .left)
 
 pub find-from-spec : {M : Type 1} → statement M
 find-from-spec =
-    tie.close
-    (tie.spec
-    Inv-loop
-    μ-loop
-    returns
-    loop-holds
-    add-loop
-    add-kind-of-low
-    shared-slice-read-kind-of-low
-    kind-of-low-requires
-    add-place-of
-    shared-slice-read-place-of
-    add-place-of-2
-    shared-slice-read-place-of-2
-    place-of-requires
-    returns-2
-    length-of-requires
-    add-at
-    add-at-2
-    loop-less
-    loop-again
-    returns-3)
+    tie.close (tie.spec
+    Inv-loop μ-loop returns loop-holds add-loop add-kind-of-low (λ c. omega arith) (λ c κs. search needs) add-place-of
+    (λ c. omega arith) add-place-of-2 (λ c. omega arith) (λ c κs. search needs) returns-2 (λ c κs. search needs) add-at
+    add-at-2 loop-less loop-again returns-3)

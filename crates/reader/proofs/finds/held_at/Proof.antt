@@ -53,24 +53,6 @@ at-is c x e = ap (λ (y : Spot). y .at) e ∙ ap (λ (l : List ℕ). positionOf 
 returns : tie.Need-returns
 returns c = no-record _ _ _ (c .if1 .taken)
 
-sub-rest : tie.Need-sub-rest
-sub-rest c = search needs
-
-part-rest-start : tie.Need-part-rest-start
-part-rest-start c = search needs
-
-part-rest-end : tie.Need-part-rest-end
-part-rest-end c = search needs
-
-frame-of-requires : tie.Need-frame-of-requires
-frame-of-requires c κs = search needs
-
-enum-known-frame : tie.Need-enum-known-frame
-enum-known-frame c = search needs
-
-enum-known-frame-2 : tie.Need-enum-known-frame-2
-enum-known-frame-2 c = search needs
-
 spot-of-requires : tie.Need-spot-of-requires
 spot-of-requires c κs = long c
 
@@ -97,17 +79,6 @@ returns-4 c =
 
 pub held-at-spec : {M : Type 1} → statement M
 held-at-spec =
-    tie.close
-    (tie.spec
-    returns
-    sub-rest
-    part-rest-start
-    part-rest-end
-    frame-of-requires
-    enum-known-frame
-    enum-known-frame-2
-    spot-of-requires
-    returns-2
-    held-in-requires
-    returns-3
-    returns-4)
+    tie.close (tie.spec
+    returns (λ c. search needs) (λ c. search needs) (λ c. search needs) (λ c κs. search needs) (λ c. search needs)
+    (λ c. search needs) spot-of-requires returns-2 held-in-requires returns-3 returns-4)

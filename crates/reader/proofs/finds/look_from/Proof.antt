@@ -7,15 +7,6 @@ use Rattle.reader.proofs.Telling.{size-within, found-is}
 use Rattle.reader.proofs.finds.look_from.Statement.{statement}
 use Rattle.reader.proofs.finds.look_from.Tie as tie
 
-find-from-requires : tie.Need-find-from-requires
-find-from-requires c κs = search needs
-
-held-at-requires : tie.Need-held-at-requires
-held-at-requires c κs = search needs
-
-size-requires : tie.Need-size-requires
-size-requires c κs = search needs
-
 add-t7 : tie.Need-add-t7
 add-t7 c =
     let a = c .before .before .before .before in
@@ -29,4 +20,4 @@ returns c = found-is _ _ _ _ _ _ (c .before .before .find-from .ensures) (c .bef
 
 pub look-from-spec : {M : Type 1} → statement M
 look-from-spec =
-    tie.close (tie.spec find-from-requires held-at-requires size-requires add-t7 returns)
+    tie.close (tie.spec (λ c κs. search needs) (λ c κs. search needs) (λ c κs. search needs) add-t7 returns)

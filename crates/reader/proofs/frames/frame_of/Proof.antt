@@ -9,42 +9,12 @@ use Rattle.reader.proofs.frames.frame_of.Tie as tie
 returns : tie.Need-returns
 returns c = sym (no-head (c .before .before .args .l .now) (c .if1 .taken))
 
-shared-slice-read-word : tie.Need-shared-slice-read-word
-shared-slice-read-word c = search needs
-
-shared-slice-read-word-2 : tie.Need-shared-slice-read-word-2
-shared-slice-read-word-2 c = search needs
-
-word-requires : tie.Need-word-requires
-word-requires c κs = search needs
-
-cast-stated : tie.Need-cast-stated
-cast-stated c = search needs
-
-shared-slice-read-word-3 : tie.Need-shared-slice-read-word-3
-shared-slice-read-word-3 c = search needs
-
-shared-slice-read-word-4 : tie.Need-shared-slice-read-word-4
-shared-slice-read-word-4 c = search needs
-
-word-requires-2 : tie.Need-word-requires-2
-word-requires-2 c κs = search needs
-
-kind-of-requires : tie.Need-kind-of-requires
-kind-of-requires c κs = search needs
-
-is-unknown-requires : tie.Need-is-unknown-requires
-is-unknown-requires c κs = search needs
-
 returns-2 : tie.Need-returns-2
 returns-2 c =
     let k = c .before .before in
     let head = k .before .before .before .before .before .before .before in
     sym (no-kind (head .before .before .args .l .now) (head .if1 .left) _ (k .kind-of .ensures ∙ ap kindOfCode (k .before .word2 .ensures))
     (sym (c .before .is-unknown .ensures) ∙ c .if2 .taken))
-
-length-of-requires : tie.Need-length-of-requires
-length-of-requires c κs = search needs
 
 returns-3 : tie.Need-returns-3
 returns-3 c =
@@ -55,9 +25,6 @@ returns-3 c =
     sym (other-length (head .before .before .args .l .now) (head .if1 .left) _ (k .kind-of .ensures ∙ ap kindOfCode (k .before .word2 .ensures))
     (sym (u .is-unknown .ensures) ∙ c .before .before .if2 .left)
     (λ e. c .if3 .taken (w .word .ensures ∙ e ∙ sym (c .before .length-of .ensures))))
-
-add-if4 : tie.Need-add-if4
-add-if4 c = search needs
 
 returns-4 : tie.Need-returns-4
 returns-4 c =
@@ -83,21 +50,7 @@ returns-5 c =
 
 pub frame-of-spec : {M : Type 1} → statement M
 frame-of-spec =
-    tie.close
-    (tie.spec
-    returns
-    shared-slice-read-word
-    shared-slice-read-word-2
-    word-requires
-    cast-stated
-    shared-slice-read-word-3
-    shared-slice-read-word-4
-    word-requires-2
-    kind-of-requires
-    is-unknown-requires
-    returns-2
-    length-of-requires
-    returns-3
-    add-if4
-    returns-4
-    returns-5)
+    tie.close (tie.spec
+    returns (λ c. search needs) (λ c. search needs) (λ c κs. search needs) (λ c. search needs) (λ c. search needs)
+    (λ c. search needs) (λ c κs. search needs) (λ c κs. search needs) (λ c κs. search needs) returns-2
+    (λ c κs. search needs) returns-3 (λ c. search needs) returns-4 returns-5)

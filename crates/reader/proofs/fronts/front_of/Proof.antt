@@ -5,18 +5,6 @@ use borrow.Author.Needs.{needs}
 use Rattle.reader.proofs.fronts.front_of.Statement.{statement}
 use Rattle.reader.proofs.fronts.front_of.Tie as tie
 
-frame-of-requires : tie.Need-frame-of-requires
-frame-of-requires c κs = search needs
-
-enum-known-frame : tie.Need-enum-known-frame
-enum-known-frame c = search needs
-
-no-front-requires : tie.Need-no-front-requires
-no-front-requires c κs = search needs
-
-enum-known-frame-2 : tie.Need-enum-known-frame-2
-enum-known-frame-2 c = search needs
-
 whole-of-requires : tie.Need-whole-of-requires
 whole-of-requires c κs =
     let f = c .before .before .before in
@@ -30,12 +18,6 @@ returns-2 c = rw (sym (c .before .before .before .before .frame-of .ensures) ∙
 
 pub front-of-spec : {M : Type 1} → statement M
 front-of-spec =
-    tie.close
-    (tie.spec
-    frame-of-requires
-    enum-known-frame
-    no-front-requires
-    enum-known-frame-2
-    whole-of-requires
-    returns
+    tie.close (tie.spec
+    (λ c κs. search needs) (λ c. search needs) (λ c κs. search needs) (λ c. search needs) whole-of-requires returns
     returns-2)

@@ -12,20 +12,11 @@ use Rattle.reader.proofs.fronts.whole_of.Tie as tie
 abbrev at-of : Spot → ℕ
 at-of x = x .at
 
-spot-of-requires : tie.Need-spot-of-requires
-spot-of-requires c κs = search needs
-
-no-front-requires : tie.Need-no-front-requires
-no-front-requires c κs = search needs
-
 returns : tie.Need-returns
 returns c =
     let s = c .before .before .before .before in
     let a = s .before .before .args in
     c .no-front .ensures ∙ sym (too-early (a .turn) (a .kind) (a .l .now) _ (ap at-of (s .spot-of .ensures)) (c .before .if1 .taken))
-
-no-front-requires-2 : tie.Need-no-front-requires-2
-no-front-requires-2 c κs = search needs
 
 returns-2 : tie.Need-returns-2
 returns-2 c =
@@ -33,12 +24,6 @@ returns-2 c =
     let s = f .before .before .before in
     let a = s .before .before .args in
     c .no-front2 .ensures ∙ sym (too-late (a .turn) (a .kind) (a .l .now) _ (ap at-of (s .spot-of .ensures)) (f .if1 .left) (c .before .if2 .taken))
-
-fits-record-requires : tie.Need-fits-record-requires
-fits-record-requires c κs = search needs
-
-no-front-requires-3 : tie.Need-no-front-requires-3
-no-front-requires-3 c κs = search needs
 
 returns-3 : tie.Need-returns-3
 returns-3 c =
@@ -50,12 +35,6 @@ returns-3 c =
     ∙ sym (no-value (a .turn) (a .kind) (a .l .now) _ (ap at-of (s .spot-of .ensures)) (f .if1 .left) (v .before .if2 .left)
     (sym (v .fits-record .ensures) ∙ not-true _ (c .before .if3 .taken)))
 
-trails-requires : tie.Need-trails-requires
-trails-requires c κs = search needs
-
-no-front-requires-4 : tie.Need-no-front-requires-4
-no-front-requires-4 c κs = search needs
-
 returns-4 : tie.Need-returns-4
 returns-4 c =
     let t = c .before .before in
@@ -66,12 +45,6 @@ returns-4 c =
     c .no-front4 .ensures
     ∙ sym (trailed (a .turn) (a .kind) (a .l .now) _ (ap at-of (s .spot-of .ensures)) (f .if1 .left) (v .before .if2 .left)
     (sym (v .fits-record .ensures) ∙ not-false _ (t .before .if3 .left)) (sym (t .trails .ensures) ∙ c .before .if4 .taken))
-
-length-of-requires : tie.Need-length-of-requires
-length-of-requires c κs = search needs
-
-add-t10 : tie.Need-add-t10
-add-t10 c = search needs
 
 returns-5 : tie.Need-returns-5
 returns-5 c =
@@ -86,19 +59,7 @@ returns-5 c =
 
 pub whole-of-spec : {M : Type 1} → statement M
 whole-of-spec =
-    tie.close
-    (tie.spec
-    spot-of-requires
-    no-front-requires
-    returns
-    no-front-requires-2
-    returns-2
-    fits-record-requires
-    no-front-requires-3
-    returns-3
-    trails-requires
-    no-front-requires-4
-    returns-4
-    length-of-requires
-    add-t10
-    returns-5)
+    tie.close (tie.spec
+    (λ c κs. search needs) (λ c κs. search needs) returns (λ c κs. search needs) returns-2 (λ c κs. search needs)
+    (λ c κs. search needs) returns-3 (λ c κs. search needs) (λ c κs. search needs) returns-4 (λ c κs. search needs)
+    (λ c. search needs) returns-5)

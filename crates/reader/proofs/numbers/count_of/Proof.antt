@@ -6,17 +6,8 @@ use borrow.Author.Needs.{needs}
 use Rattle.reader.proofs.numbers.count_of.Statement.{statement}
 use Rattle.reader.proofs.numbers.count_of.Tie as tie
 
-cast-t4 : tie.Need-cast-t4
-cast-t4 c = search needs
-
 returns : tie.Need-returns
 returns c = ap returned (natural-count (c .before .args .x) (c .if1 .taken))
-
-sub-y : tie.Need-sub-y
-sub-y c = search needs
-
-cast-y : tie.Need-cast-y
-cast-y c = search needs
 
 sub-t6 : tie.Need-sub-t6
 sub-t6 c = less-fits (c .before .args .x) (c .if1 .left)
@@ -25,4 +16,4 @@ returns-2 : tie.Need-returns-2
 returns-2 c = ap returned (below-count (c .before .args .x) (c .if1 .left))
 
 pub count-of-spec : {M : Type 1} → statement M
-count-of-spec = tie.close (tie.spec cast-t4 returns sub-y cast-y sub-t6 returns-2)
+count-of-spec = tie.close (tie.spec (λ c. search needs) returns (λ c. search needs) (λ c. search needs) sub-t6 returns-2)

@@ -5,47 +5,17 @@ use borrow.Author.Needs.{needs}
 use Rattle.reader.proofs.orders.spot_of.Statement.{statement}
 use Rattle.reader.proofs.orders.spot_of.Tie as tie
 
-enum-told : tie.Need-enum-told
-enum-told c = search needs
-
-before-requires : tie.Need-before-requires
-before-requires c κs = search needs
-
-enum-told-2 : tie.Need-enum-told-2
-enum-told-2 c = search needs
-
 shared-slice-read-up-to : tie.Need-shared-slice-read-up-to
 shared-slice-read-up-to c = let long = rw (c .before .enum-told2 .given .1) at (c .before .before .before .before .pre) in omega arith
-
-up-to-requires : tie.Need-up-to-requires
-up-to-requires c κs = search needs
-
-enum-told-3 : tie.Need-enum-told-3
-enum-told-3 c = search needs
 
 shared-slice-read-roots-spot : tie.Need-shared-slice-read-roots-spot
 shared-slice-read-roots-spot c = let long = rw (c .before .enum-told3 .given .1) at (c .before .before .before .before .pre) in omega arith
 
-roots-spot-requires : tie.Need-roots-spot-requires
-roots-spot-requires c κs = search needs
-
-enum-told-4 : tie.Need-enum-told-4
-enum-told-4 c = search needs
-
 shared-slice-read-up-to-2 : tie.Need-shared-slice-read-up-to-2
 shared-slice-read-up-to-2 c = let long = rw (c .before .enum-told4 .given .1) at (c .before .before .before .before .pre) in omega arith
 
-up-to-requires-2 : tie.Need-up-to-requires-2
-up-to-requires-2 c κs = search needs
-
-enum-told-5 : tie.Need-enum-told-5
-enum-told-5 c = search needs
-
 shared-slice-read-wide : tie.Need-shared-slice-read-wide
 shared-slice-read-wide c = let long = rw (c .before .enum-told5 .given .1) at (c .before .before .before .before .pre) in omega arith
-
-wide-requires : tie.Need-wide-requires
-wide-requires c κs = search needs
 
 mul-up-to : tie.Need-mul-up-to
 mul-up-to c = record { fits = omega (arith, c .before .shared-slice-known5 .given 4) }
@@ -62,35 +32,11 @@ shared-slice-read-up-to-3 c =
 up-to-requires-3 : tie.Need-up-to-requires-3
 up-to-requires-3 c κs = omega (arith, c .before .before .shared-slice-known5 .given 4)
 
-enum-told-6 : tie.Need-enum-told-6
-enum-told-6 c = search needs
-
 shared-slice-read-up-to-4 : tie.Need-shared-slice-read-up-to-4
 shared-slice-read-up-to-4 c = let long = rw (c .before .enum-told6 .given .1) at (c .before .before .before .before .pre) in omega arith
 
-up-to-requires-4 : tie.Need-up-to-requires-4
-up-to-requires-4 c κs = search needs
-
-enum-told-7 : tie.Need-enum-told-7
-enum-told-7 c = search needs
-
 shared-slice-read-up-to-5 : tie.Need-shared-slice-read-up-to-5
 shared-slice-read-up-to-5 c = let long = rw (c .before .enum-told7 .given .1) at (c .before .before .before .before .pre) in omega arith
-
-up-to-requires-5 : tie.Need-up-to-requires-5
-up-to-requires-5 c κs = search needs
-
-enum-told-8 : tie.Need-enum-told-8
-enum-told-8 c = search needs
-
-before-requires-2 : tie.Need-before-requires-2
-before-requires-2 c κs = search needs
-
-enum-told-9 : tie.Need-enum-told-9
-enum-told-9 c = search needs
-
-before-requires-3 : tie.Need-before-requires-3
-before-requires-3 c κs = search needs
 
 returns : tie.Need-returns
 returns c = rw (c .before .enum-told .given .1) (c .before2 .ensures)
@@ -123,42 +69,11 @@ returns-9 c = rw (c .before .enum-told9 .given .1) (c .before4 .ensures)
 
 pub spot-of-spec : {M : Type 1} → statement M
 spot-of-spec =
-    tie.close
-    (tie.spec
-    enum-told
-    before-requires
-    enum-told-2
-    shared-slice-read-up-to
-    up-to-requires
-    enum-told-3
-    shared-slice-read-roots-spot
-    roots-spot-requires
-    enum-told-4
-    shared-slice-read-up-to-2
-    up-to-requires-2
-    enum-told-5
-    shared-slice-read-wide
-    wide-requires
-    mul-up-to
-    add-up-to
-    shared-slice-read-up-to-3
-    up-to-requires-3
-    enum-told-6
-    shared-slice-read-up-to-4
-    up-to-requires-4
-    enum-told-7
-    shared-slice-read-up-to-5
-    up-to-requires-5
-    enum-told-8
-    before-requires-2
-    enum-told-9
-    before-requires-3
-    returns
-    returns-2
-    returns-3
-    returns-4
-    returns-5
-    returns-6
-    returns-7
-    returns-8
-    returns-9)
+    tie.close (tie.spec
+    (λ c. search needs) (λ c κs. search needs) (λ c. search needs) shared-slice-read-up-to (λ c κs. search needs)
+    (λ c. search needs) shared-slice-read-roots-spot (λ c κs. search needs) (λ c. search needs)
+    shared-slice-read-up-to-2 (λ c κs. search needs) (λ c. search needs) shared-slice-read-wide (λ c κs. search needs)
+    mul-up-to add-up-to shared-slice-read-up-to-3 up-to-requires-3 (λ c. search needs) shared-slice-read-up-to-4
+    (λ c κs. search needs) (λ c. search needs) shared-slice-read-up-to-5 (λ c κs. search needs) (λ c. search needs)
+    (λ c κs. search needs) (λ c. search needs) (λ c κs. search needs) returns returns-2 returns-3 returns-4 returns-5
+    returns-6 returns-7 returns-8 returns-9)

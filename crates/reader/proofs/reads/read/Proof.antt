@@ -86,32 +86,11 @@ long c g = rw (rest-is (all c) (c .before .before .loop2 .at)) (g .long)
 loop-holds : tie.Need-loop-holds Inv-loop2 μ-loop2 Inv-loop μ-loop
 loop-holds c = λ ne. absurd (ne refl)
 
-fresh-requires : tie.Need-fresh-requires Inv-loop2 μ-loop2 Inv-loop μ-loop
-fresh-requires c κs = search needs
-
-loaded-requires : tie.Need-loaded-requires Inv-loop2 μ-loop2 Inv-loop μ-loop
-loaded-requires c κs = search needs
-
 returns : tie.Need-returns Inv-loop2 μ-loop2 Inv-loop μ-loop
 returns c = c .loaded .ensures ∙ rw (c .before .before .fresh .ensures) (sym (c .before .before .before .loop .inv (c .before .if1 .taken)))
 
-fresh-requires-2 : tie.Need-fresh-requires-2 Inv-loop2 μ-loop2 Inv-loop μ-loop
-fresh-requires-2 c κs = search needs
-
 loop2-holds : tie.Need-loop2-holds Inv-loop2 μ-loop2 Inv-loop μ-loop
 loop2-holds c = at-first (c .before .before .before .before .before .args .bytes .now) _ _ (c .before .before .fresh .ensures) (c .fresh2 .ensures)
-
-sub-rest : tie.Need-sub-rest Inv-loop2 μ-loop2 Inv-loop μ-loop
-sub-rest c = search needs
-
-part-rest-start : tie.Need-part-rest-start Inv-loop2 μ-loop2 Inv-loop μ-loop
-part-rest-start c = search needs
-
-part-rest-end : tie.Need-part-rest-end Inv-loop2 μ-loop2 Inv-loop μ-loop
-part-rest-end c = search needs
-
-front-of-requires : tie.Need-front-of-requires Inv-loop2 μ-loop2 Inv-loop μ-loop
-front-of-requires c κs = search needs
 
 add-at : tie.Need-add-at Inv-loop2 μ-loop2 Inv-loop μ-loop
 add-at c =
@@ -119,9 +98,6 @@ add-at c =
     let start = w .before .before .before .before .before .before .before .before in
     let loop = w .before .before .loop2 in
     omega (arith, inside (all w) (loop .at) (now w) (w .front-of .result) (loop .inv .within) (front w), start .good)
-
-enum-told : tie.Need-enum-told Inv-loop2 μ-loop2 Inv-loop μ-loop
-enum-told c = search needs
 
 number-at-requires : tie.Need-number-at-requires Inv-loop2 μ-loop2 Inv-loop μ-loop
 number-at-requires c κs = let w = c .before .before .before .before in long w (taken w Count refl (c .enum-told .given .1))
@@ -134,9 +110,6 @@ loop2-again c =
     let w = c .before .before .before .before .before in
     put-count (w .before .before .loop2 .inv) (taken w Count refl (c .before .enum-told .given .1)) (c .number-at .result)
     (c .number-at .ensures ∙ ap (λ (l : List ℕ). numberOf (take 4 (drop HEAD l))) (rest-is _ (w .before .before .loop2 .at)))
-
-enum-told-2 : tie.Need-enum-told-2 Inv-loop2 μ-loop2 Inv-loop μ-loop
-enum-told-2 c = search needs
 
 object-in-requires : tie.Need-object-in-requires Inv-loop2 μ-loop2 Inv-loop μ-loop
 object-in-requires c κs = let w = c .before .before .before .before in long w (taken w Live refl (c .enum-told2 .given .1))
@@ -158,9 +131,6 @@ loop2-again-2 c =
     put-live (w .before .before .loop2 .inv) (taken w Live refl (c .before .enum-told2 .given .1)) (c .object-in .result)
     (c .object-in .ensures ∙ ap (λ (l : List ℕ). liveObject (payload Live l)) (rest-is _ (w .before .before .loop2 .at)))
 
-enum-told-3 : tie.Need-enum-told-3 Inv-loop2 μ-loop2 Inv-loop μ-loop
-enum-told-3 c = search needs
-
 roots-in-requires : tie.Need-roots-in-requires Inv-loop2 μ-loop2 Inv-loop μ-loop
 roots-in-requires c κs = let w = c .before .before .before .before in long w (taken w NodeRoots refl (c .enum-told3 .given .1))
 
@@ -180,9 +150,6 @@ loop2-again-3 c =
     let w = c .before .before .before .before .before in
     put-roots (w .before .before .loop2 .inv) (taken w NodeRoots refl (c .before .enum-told3 .given .1)) (c .roots-in .result)
     (c .roots-in .ensures ∙ ap (λ (l : List ℕ). rootsOfNode (payload NodeRoots l)) (rest-is _ (w .before .before .loop2 .at)))
-
-enum-told-4 : tie.Need-enum-told-4 Inv-loop2 μ-loop2 Inv-loop μ-loop
-enum-told-4 c = search needs
 
 mul-with-directory : tie.Need-mul-with-directory Inv-loop2 μ-loop2 Inv-loop μ-loop
 mul-with-directory c =
@@ -217,9 +184,6 @@ loop2-again-4 c =
     put-directory (w .before .before .loop2 .inv) (taken w Directory refl (c .before .before .enum-told4 .given .1)) (c .with-directory .result)
     (c .with-directory .ensures ∙ ap (λ (l : List ℕ). cellWithDirectory (cell w) (payload Directory l)) (rest-is _ (w .before .before .loop2 .at)))
 
-enum-told-5 : tie.Need-enum-told-5 Inv-loop2 μ-loop2 Inv-loop μ-loop
-enum-told-5 c = search needs
-
 mul-with-remote : tie.Need-mul-with-remote Inv-loop2 μ-loop2 Inv-loop μ-loop
 mul-with-remote c =
     let w = c .before .before .before .before in
@@ -251,9 +215,6 @@ loop2-again-5 c =
     put-remote (w .before .before .loop2 .inv) (taken w Remote refl (c .before .before .enum-told5 .given .1)) (c .with-remote .result)
     (c .with-remote .ensures ∙ ap (λ (l : List ℕ). cellWithRemote (cell w) (payload Remote l)) (rest-is _ (w .before .before .loop2 .at)))
 
-enum-told-6 : tie.Need-enum-told-6 Inv-loop2 μ-loop2 Inv-loop μ-loop
-enum-told-6 c = search needs
-
 reference-in-requires : tie.Need-reference-in-requires Inv-loop2 μ-loop2 Inv-loop μ-loop
 reference-in-requires c κs = let w = c .before .before .before .before in long w (taken w Reference refl (c .enum-told6 .given .1))
 
@@ -275,9 +236,6 @@ loop2-again-6 c =
     let w = c .before .before .before .before .before in
     put-reference (w .before .before .loop2 .inv) (taken w Reference refl (c .before .enum-told6 .given .1)) (c .reference-in .result)
     (c .reference-in .ensures ∙ ap (λ (l : List ℕ). reference (payload Reference l)) (rest-is _ (w .before .before .loop2 .at)))
-
-enum-told-7 : tie.Need-enum-told-7 Inv-loop2 μ-loop2 Inv-loop μ-loop
-enum-told-7 c = search needs
 
 decrement-in-requires : tie.Need-decrement-in-requires Inv-loop2 μ-loop2 Inv-loop μ-loop
 decrement-in-requires c κs = let w = c .before .before .before .before in long w (taken w Decrement refl (c .enum-told7 .given .1))
@@ -301,19 +259,10 @@ loop2-again-7 c =
     put-decrement (w .before .before .loop2 .inv) (taken w Decrement refl (c .before .enum-told7 .given .1)) (c .decrement-in .result)
     (c .decrement-in .ensures ∙ ap (λ (l : List ℕ). decrement (payload Decrement l)) (rest-is _ (w .before .before .loop2 .at)))
 
-enum-told-8 : tie.Need-enum-told-8 Inv-loop2 μ-loop2 Inv-loop μ-loop
-enum-told-8 c = search needs
-
-loaded-requires-2 : tie.Need-loaded-requires-2 Inv-loop2 μ-loop2 Inv-loop μ-loop
-loaded-requires-2 c κs = search needs
-
 returns-2 : tie.Need-returns-2 Inv-loop2 μ-loop2 Inv-loop μ-loop
 returns-2 c =
     let w = c .before .before .before .before .before in
     c .loaded2 .ensures ∙ sym (ended (w .before .before .loop2 .inv) (taken w End refl (c .before .enum-told8 .given .1)))
-
-enum-told-9 : tie.Need-enum-told-9 Inv-loop2 μ-loop2 Inv-loop μ-loop
-enum-told-9 c = search needs
 
 loop-less : tie.Need-loop-less Inv-loop2 μ-loop2 Inv-loop μ-loop
 loop-less c =
@@ -325,70 +274,15 @@ loop-again c = λ ne. let w = c .before .before .before .before in stopped (w .b
 
 pub read-spec : {M : Type 1} → statement M
 read-spec =
-    tie.close
-    (tie.spec
-    Inv-loop2
-    μ-loop2
-    Inv-loop
-    μ-loop
-    loop-holds
-    fresh-requires
-    loaded-requires
-    returns
-    fresh-requires-2
-    loop2-holds
-    sub-rest
-    part-rest-start
-    part-rest-end
-    front-of-requires
-    add-at
-    enum-told
-    number-at-requires
-    loop2-less
-    loop2-again
-    enum-told-2
-    object-in-requires
-    mul-t20
-    element-set-from-heap
-    loop2-less-2
-    loop2-again-2
-    enum-told-3
-    roots-in-requires
-    mul-t24
-    element-set-from-heap-2
-    loop2-less-3
-    loop2-again-3
-    enum-told-4
-    mul-with-directory
-    element-copy-out-with-directory
-    with-directory-requires
-    mul-t32
-    element-set-from-table
-    loop2-less-4
-    loop2-again-4
-    enum-told-5
-    mul-with-remote
-    element-copy-out-with-remote
-    with-remote-requires
-    mul-t40
-    element-set-from-table-2
-    loop2-less-5
-    loop2-again-5
-    enum-told-6
-    reference-in-requires
-    mul-t44
-    element-set-from-table-3
-    loop2-less-6
-    loop2-again-6
-    enum-told-7
-    decrement-in-requires
-    mul-t48
-    element-set-from-table-4
-    loop2-less-7
-    loop2-again-7
-    enum-told-8
-    loaded-requires-2
-    returns-2
-    enum-told-9
-    loop-less
-    loop-again)
+    tie.close (tie.spec
+    Inv-loop2 μ-loop2 Inv-loop μ-loop loop-holds (λ c κs. search needs) (λ c κs. search needs) returns
+    (λ c κs. search needs) loop2-holds (λ c. search needs) (λ c. search needs) (λ c. search needs)
+    (λ c κs. search needs) add-at (λ c. search needs) number-at-requires loop2-less loop2-again (λ c. search needs)
+    object-in-requires mul-t20 element-set-from-heap loop2-less-2 loop2-again-2 (λ c. search needs) roots-in-requires
+    mul-t24 element-set-from-heap-2 loop2-less-3 loop2-again-3 (λ c. search needs) mul-with-directory
+    element-copy-out-with-directory with-directory-requires mul-t32 element-set-from-table loop2-less-4 loop2-again-4
+    (λ c. search needs) mul-with-remote element-copy-out-with-remote with-remote-requires mul-t40
+    element-set-from-table-2 loop2-less-5 loop2-again-5 (λ c. search needs) reference-in-requires mul-t44
+    element-set-from-table-3 loop2-less-6 loop2-again-6 (λ c. search needs) decrement-in-requires mul-t48
+    element-set-from-table-4 loop2-less-7 loop2-again-7 (λ c. search needs) (λ c κs. search needs) returns-2
+    (λ c. search needs) loop-less loop-again)

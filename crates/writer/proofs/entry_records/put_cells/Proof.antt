@@ -46,51 +46,9 @@ loop-holds :
     tie.Need-loop-holds Inv-loop2 μ-loop2 Inv-loop μ-loop Inv-loop4 μ-loop4 Inv-loop3 μ-loop3
 loop-holds c = (omega arith, omega arith, put-start DIRECTORY-BYTES (directoryOf (c .args .t3)) _ _)
 
-cast-j : tie.Need-cast-j Inv-loop2 μ-loop2 Inv-loop μ-loop Inv-loop4 μ-loop4 Inv-loop3 μ-loop3
-cast-j c = search needs
-
-mul-end : tie.Need-mul-end Inv-loop2 μ-loop2 Inv-loop μ-loop Inv-loop4 μ-loop4 Inv-loop3 μ-loop3
-mul-end c = search needs
-
-add-end : tie.Need-add-end Inv-loop2 μ-loop2 Inv-loop μ-loop Inv-loop4 μ-loop4 Inv-loop3 μ-loop3
-add-end c = search needs
-
 loop2-holds :
     tie.Need-loop2-holds Inv-loop2 μ-loop2 Inv-loop μ-loop Inv-loop4 μ-loop4 Inv-loop3 μ-loop3
 loop2-holds c = (omega arith, omega arith, λ before first done. done)
-
-cast-k : tie.Need-cast-k Inv-loop2 μ-loop2 Inv-loop μ-loop Inv-loop4 μ-loop4 Inv-loop3 μ-loop3
-cast-k c = search needs
-
-mul-cell : tie.Need-mul-cell Inv-loop2 μ-loop2 Inv-loop μ-loop Inv-loop4 μ-loop4 Inv-loop3 μ-loop3
-mul-cell c = search needs
-
-array-copy-out-cell :
-    tie.Need-array-copy-out-cell
-    Inv-loop2
-    μ-loop2
-    Inv-loop
-    μ-loop
-    Inv-loop4
-    μ-loop4
-    Inv-loop3
-    μ-loop3
-array-copy-out-cell c = search needs
-
-mul-slot : tie.Need-mul-slot Inv-loop2 μ-loop2 Inv-loop μ-loop Inv-loop4 μ-loop4 Inv-loop3 μ-loop3
-mul-slot c = search needs
-
-element-copy-out-slot :
-    tie.Need-element-copy-out-slot
-    Inv-loop2
-    μ-loop2
-    Inv-loop
-    μ-loop
-    Inv-loop4
-    μ-loop4
-    Inv-loop3
-    μ-loop3
-element-copy-out-slot c = search needs
 
 put-directory-requires :
     tie.Need-put-directory-requires
@@ -108,13 +66,6 @@ put-directory-requires c κs =
     let so-far = inner .inv .2 _ _ (outer .loop .inv .2) in
     omega (arith, so-far .small, inner .inv .1, outer .before .pre)
 
-add-o : tie.Need-add-o Inv-loop2 μ-loop2 Inv-loop μ-loop Inv-loop4 μ-loop4 Inv-loop3 μ-loop3
-add-o c = search needs
-
-loop2-less :
-    tie.Need-loop2-less Inv-loop2 μ-loop2 Inv-loop μ-loop Inv-loop4 μ-loop4 Inv-loop3 μ-loop3
-loop2-less c = omega arith
-
 loop2-again :
     tie.Need-loop2-again Inv-loop2 μ-loop2 Inv-loop μ-loop Inv-loop4 μ-loop4 Inv-loop3 μ-loop3
 loop2-again c =
@@ -127,13 +78,6 @@ loop2-again c =
       λ before first done. put-more DIRECTORY-BYTES (directoryOf (outer .before .args .t3)) (inner .o) (inner .inv .2 before first done) directory,
     )
 
-add-p : tie.Need-add-p Inv-loop2 μ-loop2 Inv-loop μ-loop Inv-loop4 μ-loop4 Inv-loop3 μ-loop3
-add-p c = search needs
-
-loop-less :
-    tie.Need-loop-less Inv-loop2 μ-loop2 Inv-loop μ-loop Inv-loop4 μ-loop4 Inv-loop3 μ-loop3
-loop-less c = omega arith
-
 loop-again :
     tie.Need-loop-again Inv-loop2 μ-loop2 Inv-loop μ-loop Inv-loop4 μ-loop4 Inv-loop3 μ-loop3
 loop-again c =
@@ -145,47 +89,9 @@ loop3-holds :
     tie.Need-loop3-holds Inv-loop2 μ-loop2 Inv-loop μ-loop Inv-loop4 μ-loop4 Inv-loop3 μ-loop3
 loop3-holds c = (omega arith, put-start (REMOTE-BYTES * OBJECTS) (λ n. gather OBJECTS (remoteOf (c .before .before .args .t3) n)) _ _)
 
-cast-j-2 : tie.Need-cast-j-2 Inv-loop2 μ-loop2 Inv-loop μ-loop Inv-loop4 μ-loop4 Inv-loop3 μ-loop3
-cast-j-2 c = search needs
-
 loop4-holds :
     tie.Need-loop4-holds Inv-loop2 μ-loop2 Inv-loop μ-loop Inv-loop4 μ-loop4 Inv-loop3 μ-loop3
 loop4-holds c = (omega arith, put-start REMOTE-BYTES (remoteOf (c .before .before .before .before .args .t3) (c .before .loop3 .q)) _ _)
-
-cast-k-2 : tie.Need-cast-k-2 Inv-loop2 μ-loop2 Inv-loop μ-loop Inv-loop4 μ-loop4 Inv-loop3 μ-loop3
-cast-k-2 c = search needs
-
-mul-cell-2 :
-    tie.Need-mul-cell-2 Inv-loop2 μ-loop2 Inv-loop μ-loop Inv-loop4 μ-loop4 Inv-loop3 μ-loop3
-mul-cell-2 c = search needs
-
-array-copy-out-cell-2 :
-    tie.Need-array-copy-out-cell-2
-    Inv-loop2
-    μ-loop2
-    Inv-loop
-    μ-loop
-    Inv-loop4
-    μ-loop4
-    Inv-loop3
-    μ-loop3
-array-copy-out-cell-2 c = search needs
-
-mul-slot-2 :
-    tie.Need-mul-slot-2 Inv-loop2 μ-loop2 Inv-loop μ-loop Inv-loop4 μ-loop4 Inv-loop3 μ-loop3
-mul-slot-2 c = search needs
-
-element-copy-out-slot-2 :
-    tie.Need-element-copy-out-slot-2
-    Inv-loop2
-    μ-loop2
-    Inv-loop
-    μ-loop
-    Inv-loop4
-    μ-loop4
-    Inv-loop3
-    μ-loop3
-element-copy-out-slot-2 c = search needs
 
 put-remote-requires :
     tie.Need-put-remote-requires
@@ -203,13 +109,6 @@ put-remote-requires c κs =
     let owners = c .before .before .before .before .before .before .before .before in
     omega (arith, inner .inv .1 .small, outer .inv .1 .small, owners .loop .inv .1, owners .loop .inv .2 .small, owners .before .pre)
 
-add-x : tie.Need-add-x Inv-loop2 μ-loop2 Inv-loop μ-loop Inv-loop4 μ-loop4 Inv-loop3 μ-loop3
-add-x c = search needs
-
-loop4-less :
-    tie.Need-loop4-less Inv-loop2 μ-loop2 Inv-loop μ-loop Inv-loop4 μ-loop4 Inv-loop3 μ-loop3
-loop4-less c = omega arith
-
 loop4-again :
     tie.Need-loop4-again Inv-loop2 μ-loop2 Inv-loop μ-loop Inv-loop4 μ-loop4 Inv-loop3 μ-loop3
 loop4-again c =
@@ -217,13 +116,6 @@ loop4-again c =
     let outer = c .before .before .before .before .before .before .before in
     let cells = outer .before .before .before .args .t3 in
     (omega arith, put-more REMOTE-BYTES (remoteOf cells (outer .loop3 .q)) (inner .x) (inner .inv .1) (c .put-remote .ensures))
-
-add-q : tie.Need-add-q Inv-loop2 μ-loop2 Inv-loop μ-loop Inv-loop4 μ-loop4 Inv-loop3 μ-loop3
-add-q c = search needs
-
-loop3-less :
-    tie.Need-loop3-less Inv-loop2 μ-loop2 Inv-loop μ-loop Inv-loop4 μ-loop4 Inv-loop3 μ-loop3
-loop3-less c = omega arith
 
 loop3-again :
     tie.Need-loop3-again Inv-loop2 μ-loop2 Inv-loop μ-loop Inv-loop4 μ-loop4 Inv-loop3 μ-loop3
@@ -245,46 +137,10 @@ returns c =
 
 pub put-cells-spec : {M : Type 1} → statement M
 put-cells-spec =
-    tie.close
-    (tie.spec
-    Inv-loop2
-    μ-loop2
-    Inv-loop
-    μ-loop
-    Inv-loop4
-    μ-loop4
-    Inv-loop3
-    μ-loop3
-    loop-holds
-    cast-j
-    mul-end
-    add-end
-    loop2-holds
-    cast-k
-    mul-cell
-    array-copy-out-cell
-    mul-slot
-    element-copy-out-slot
-    put-directory-requires
-    add-o
-    loop2-less
-    loop2-again
-    add-p
-    loop-less
-    loop-again
-    loop3-holds
-    cast-j-2
-    loop4-holds
-    cast-k-2
-    mul-cell-2
-    array-copy-out-cell-2
-    mul-slot-2
-    element-copy-out-slot-2
-    put-remote-requires
-    add-x
-    loop4-less
-    loop4-again
-    add-q
-    loop3-less
-    loop3-again
-    returns)
+    tie.close (tie.spec
+    Inv-loop2 μ-loop2 Inv-loop μ-loop Inv-loop4 μ-loop4 Inv-loop3 μ-loop3 loop-holds (λ c. search needs)
+    (λ c. search needs) (λ c. search needs) loop2-holds (λ c. search needs) (λ c. search needs) (λ c. search needs)
+    (λ c. search needs) (λ c. search needs) put-directory-requires (λ c. search needs) (λ c. omega arith) loop2-again
+    (λ c. search needs) (λ c. omega arith) loop-again loop3-holds (λ c. search needs) loop4-holds (λ c. search needs)
+    (λ c. search needs) (λ c. search needs) (λ c. search needs) (λ c. search needs) put-remote-requires
+    (λ c. search needs) (λ c. omega arith) loop4-again (λ c. search needs) (λ c. omega arith) loop3-again returns)

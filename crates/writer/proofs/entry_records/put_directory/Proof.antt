@@ -4,18 +4,6 @@ use borrow.Author.Needs.{needs}
 use Rattle.writer.proofs.entry_records.put_directory.Statement.{statement}
 use Rattle.writer.proofs.entry_records.put_directory.Tie as tie
 
-enum-told : tie.Need-enum-told
-enum-told c = search needs
-
-enum-known-e : tie.Need-enum-known-e
-enum-known-e c = search needs
-
-put-owners-requires : tie.Need-put-owners-requires
-put-owners-requires c κs = search needs
-
-enum-told-2 : tie.Need-enum-told-2
-enum-told-2 c = search needs
-
 returns : tie.Need-returns
 returns c = rw (c .enum-told .given .1) (put-none _ _ _)
 
@@ -27,5 +15,5 @@ returns-3 c = rw (c .enum-told2 .given .1) (put-none _ _ _)
 
 pub put-directory-spec : {M : Type 1} → statement M
 put-directory-spec =
-    tie.close
-    (tie.spec enum-told enum-known-e put-owners-requires enum-told-2 returns returns-2 returns-3)
+    tie.close (tie.spec
+    (λ c. search needs) (λ c. search needs) (λ c κs. search needs) (λ c. search needs) returns returns-2 returns-3)

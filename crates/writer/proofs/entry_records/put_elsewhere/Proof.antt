@@ -6,33 +6,6 @@ use borrow.Author.Needs.{needs}
 use Rattle.writer.proofs.entry_records.put_elsewhere.Statement.{statement}
 use Rattle.writer.proofs.entry_records.put_elsewhere.Tie as tie
 
-one-if-requires : tie.Need-one-if-requires
-one-if-requires c κs = search needs
-
-store-head-requires : tie.Need-store-head-requires
-store-head-requires c κs = search needs
-
-store-byte-requires : tie.Need-store-byte-requires
-store-byte-requires c κs = search needs
-
-store-byte-requires-2 : tie.Need-store-byte-requires-2
-store-byte-requires-2 c κs = search needs
-
-store-number-requires : tie.Need-store-number-requires
-store-number-requires c κs = search needs
-
-store-byte-requires-3 : tie.Need-store-byte-requires-3
-store-byte-requires-3 c κs = search needs
-
-store-byte-requires-4 : tie.Need-store-byte-requires-4
-store-byte-requires-4 c κs = search needs
-
-store-returns-requires : tie.Need-store-returns-requires
-store-returns-requires c κs = search needs
-
-store-number-requires-2 : tie.Need-store-number-requires-2
-store-number-requires-2 c κs = search needs
-
 returns : tie.Need-returns
 unfolding bytesOfAll
 returns c =
@@ -52,15 +25,6 @@ returns c =
 
 pub put-elsewhere-spec : {M : Type 1} → statement M
 put-elsewhere-spec =
-    tie.close
-    (tie.spec
-    one-if-requires
-    store-head-requires
-    store-byte-requires
-    store-byte-requires-2
-    store-number-requires
-    store-byte-requires-3
-    store-byte-requires-4
-    store-returns-requires
-    store-number-requires-2
-    returns)
+    tie.close (tie.spec
+    (λ c κs. search needs) (λ c κs. search needs) (λ c κs. search needs) (λ c κs. search needs) (λ c κs. search needs)
+    (λ c κs. search needs) (λ c κs. search needs) (λ c κs. search needs) (λ c κs. search needs) returns)

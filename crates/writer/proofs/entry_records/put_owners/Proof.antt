@@ -6,18 +6,6 @@ use borrow.Author.Needs.{needs}
 use Rattle.writer.proofs.entry_records.put_owners.Statement.{statement}
 use Rattle.writer.proofs.entry_records.put_owners.Tie as tie
 
-store-head-requires : tie.Need-store-head-requires
-store-head-requires c κs = search needs
-
-store-byte-requires : tie.Need-store-byte-requires
-store-byte-requires c κs = search needs
-
-store-number-requires : tie.Need-store-number-requires
-store-number-requires c κs = search needs
-
-store-returns-requires : tie.Need-store-returns-requires
-store-returns-requires c κs = search needs
-
 returns : tie.Need-returns
 unfolding bytesOfAll
 returns c =
@@ -30,10 +18,5 @@ returns c =
 
 pub put-owners-spec : {M : Type 1} → statement M
 put-owners-spec =
-    tie.close
-    (tie.spec
-    store-head-requires
-    store-byte-requires
-    store-number-requires
-    store-returns-requires
-    returns)
+    tie.close (tie.spec
+    (λ c κs. search needs) (λ c κs. search needs) (λ c κs. search needs) (λ c κs. search needs) returns)

@@ -35,23 +35,8 @@ abbrev μ-loop2 : tie.MeasureT-loop2
 loop-holds : tie.Need-loop-holds Inv-loop μ-loop Inv-loop2 μ-loop2
 loop-holds c = (omega arith, put-start OBJECT-BYTES (live (c .args .t3)) _ _)
 
-cast-k : tie.Need-cast-k Inv-loop μ-loop Inv-loop2 μ-loop2
-cast-k c = search needs
-
-mul-x : tie.Need-mul-x Inv-loop μ-loop Inv-loop2 μ-loop2
-mul-x c = search needs
-
-element-copy-out-x : tie.Need-element-copy-out-x Inv-loop μ-loop Inv-loop2 μ-loop2
-element-copy-out-x c = search needs
-
 put-object-requires : tie.Need-put-object-requires Inv-loop μ-loop Inv-loop2 μ-loop2
 put-object-requires c κs = omega (arith, c .before .before .before .loop .inv .1 .small, c .before .before .before .before .pre)
-
-add-o : tie.Need-add-o Inv-loop μ-loop Inv-loop2 μ-loop2
-add-o c = search needs
-
-loop-less : tie.Need-loop-less Inv-loop μ-loop Inv-loop2 μ-loop2
-loop-less c = omega arith
 
 loop-again : tie.Need-loop-again Inv-loop μ-loop Inv-loop2 μ-loop2
 loop-again c =
@@ -61,26 +46,11 @@ loop-again c =
 loop2-holds : tie.Need-loop2-holds Inv-loop μ-loop Inv-loop2 μ-loop2
 loop2-holds c = (omega arith, put-start ROOTS-BYTES (node (c .before .before .args .t3)) _ _)
 
-cast-k-2 : tie.Need-cast-k-2 Inv-loop μ-loop Inv-loop2 μ-loop2
-cast-k-2 c = search needs
-
-mul-x-2 : tie.Need-mul-x-2 Inv-loop μ-loop Inv-loop2 μ-loop2
-mul-x-2 c = search needs
-
-element-copy-out-x-2 : tie.Need-element-copy-out-x-2 Inv-loop μ-loop Inv-loop2 μ-loop2
-element-copy-out-x-2 c = search needs
-
 put-roots-requires : tie.Need-put-roots-requires Inv-loop μ-loop Inv-loop2 μ-loop2
 put-roots-requires c κs =
     let nodes = c .before .before .before in
     let objects = nodes .before .before in
     omega (arith, nodes .loop2 .inv .1 .small, objects .loop .inv .1 .small, objects .before .pre)
-
-add-p : tie.Need-add-p Inv-loop μ-loop Inv-loop2 μ-loop2
-add-p c = search needs
-
-loop2-less : tie.Need-loop2-less Inv-loop μ-loop Inv-loop2 μ-loop2
-loop2-less c = omega arith
 
 loop2-again : tie.Need-loop2-again Inv-loop μ-loop Inv-loop2 μ-loop2
 loop2-again c =
@@ -97,26 +67,8 @@ returns c =
 
 pub put-heap-spec : {M : Type 1} → statement M
 put-heap-spec =
-    tie.close
-    (tie.spec
-    Inv-loop
-    μ-loop
-    Inv-loop2
-    μ-loop2
-    loop-holds
-    cast-k
-    mul-x
-    element-copy-out-x
-    put-object-requires
-    add-o
-    loop-less
-    loop-again
-    loop2-holds
-    cast-k-2
-    mul-x-2
-    element-copy-out-x-2
-    put-roots-requires
-    add-p
-    loop2-less
-    loop2-again
+    tie.close (tie.spec
+    Inv-loop μ-loop Inv-loop2 μ-loop2 loop-holds (λ c. search needs) (λ c. search needs) (λ c. search needs)
+    put-object-requires (λ c. search needs) (λ c. omega arith) loop-again loop2-holds (λ c. search needs)
+    (λ c. search needs) (λ c. search needs) put-roots-requires (λ c. search needs) (λ c. omega arith) loop2-again
     returns)

@@ -6,18 +6,6 @@ use borrow.Author.Needs.{needs}
 use Rattle.writer.proofs.message_records.put_decrement.Statement.{statement}
 use Rattle.writer.proofs.message_records.put_decrement.Tie as tie
 
-store-head-requires : tie.Need-store-head-requires
-store-head-requires c κs = search needs
-
-store-four-requires : tie.Need-store-four-requires
-store-four-requires c κs = search needs
-
-store-returns-requires : tie.Need-store-returns-requires
-store-returns-requires c κs = search needs
-
-store-number-requires : tie.Need-store-number-requires
-store-number-requires c κs = search needs
-
 returns : tie.Need-returns
 unfolding bytesOfAll
 returns c =
@@ -30,10 +18,5 @@ returns c =
 
 pub put-decrement-spec : {M : Type 1} → statement M
 put-decrement-spec =
-    tie.close
-    (tie.spec
-    store-head-requires
-    store-four-requires
-    store-returns-requires
-    store-number-requires
-    returns)
+    tie.close (tie.spec
+    (λ c κs. search needs) (λ c κs. search needs) (λ c κs. search needs) (λ c κs. search needs) returns)

@@ -4,21 +4,6 @@ use borrow.Author.Needs.{needs}
 use Rattle.writer.proofs.message_records.put_message.Statement.{statement}
 use Rattle.writer.proofs.message_records.put_message.Tie as tie
 
-enum-told : tie.Need-enum-told
-enum-told c = search needs
-
-enum-known-m : tie.Need-enum-known-m
-enum-known-m c = search needs
-
-put-reference-requires : tie.Need-put-reference-requires
-put-reference-requires c κs = search needs
-
-enum-known-m-2 : tie.Need-enum-known-m-2
-enum-known-m-2 c = search needs
-
-put-decrement-requires : tie.Need-put-decrement-requires
-put-decrement-requires c κs = search needs
-
 returns : tie.Need-returns
 returns c = rw (c .enum-told .given .1) (put-none _ _ _)
 
@@ -30,13 +15,6 @@ returns-3 c = rw (c .before .before .before .m2 .given .1) (c .put-decrement .en
 
 pub put-message-spec : {M : Type 1} → statement M
 put-message-spec =
-    tie.close
-    (tie.spec
-    enum-told
-    enum-known-m
-    put-reference-requires
-    enum-known-m-2
-    put-decrement-requires
-    returns
-    returns-2
-    returns-3)
+    tie.close (tie.spec
+    (λ c. search needs) (λ c. search needs) (λ c κs. search needs) (λ c. search needs) (λ c κs. search needs) returns
+    returns-2 returns-3)

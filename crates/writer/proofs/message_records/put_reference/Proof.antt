@@ -6,12 +6,6 @@ use borrow.Author.Needs.{needs}
 use Rattle.writer.proofs.message_records.put_reference.Statement.{statement}
 use Rattle.writer.proofs.message_records.put_reference.Tie as tie
 
-store-head-requires : tie.Need-store-head-requires
-store-head-requires c κs = search needs
-
-store-four-requires : tie.Need-store-four-requires
-store-four-requires c κs = search needs
-
 returns : tie.Need-returns
 unfolding bytesOfAll
 returns c =
@@ -19,4 +13,4 @@ returns c =
     record { stored = all; small = omega (arith, all .place) }
 
 pub put-reference-spec : {M : Type 1} → statement M
-put-reference-spec = tie.close (tie.spec store-head-requires store-four-requires returns)
+put-reference-spec = tie.close (tie.spec (λ c κs. search needs) (λ c κs. search needs) returns)

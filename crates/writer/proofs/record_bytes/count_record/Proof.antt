@@ -6,18 +6,6 @@ use borrow.Author.Needs.{needs}
 use Rattle.writer.proofs.record_bytes.count_record.Statement.{statement}
 use Rattle.writer.proofs.record_bytes.count_record.Tie as tie
 
-byte-0-requires : tie.Need-byte-0-requires
-byte-0-requires c κs = search needs
-
-byte-1-requires : tie.Need-byte-1-requires
-byte-1-requires c κs = search needs
-
-byte-2-requires : tie.Need-byte-2-requires
-byte-2-requires c κs = search needs
-
-byte-3-requires : tie.Need-byte-3-requires
-byte-3-requires c κs = search needs
-
 returns : tie.Need-returns
 unfolding bytesOfAll
 returns c =
@@ -33,4 +21,5 @@ returns c =
 
 pub count-record-spec : {M : Type 1} → statement M
 count-record-spec =
-    tie.close (tie.spec byte-0-requires byte-1-requires byte-2-requires byte-3-requires returns)
+    tie.close (tie.spec
+    (λ c κs. search needs) (λ c κs. search needs) (λ c κs. search needs) (λ c κs. search needs) returns)

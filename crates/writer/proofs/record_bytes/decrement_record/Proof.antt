@@ -8,33 +8,6 @@ use borrow.Author.Needs.{needs}
 use Rattle.writer.proofs.record_bytes.decrement_record.Statement.{statement}
 use Rattle.writer.proofs.record_bytes.decrement_record.Tie as tie
 
-bits-of-requires : tie.Need-bits-of-requires
-bits-of-requires c κs = search needs
-
-byte-0-requires : tie.Need-byte-0-requires
-byte-0-requires c κs = search needs
-
-byte-1-requires : tie.Need-byte-1-requires
-byte-1-requires c κs = search needs
-
-byte-2-requires : tie.Need-byte-2-requires
-byte-2-requires c κs = search needs
-
-byte-3-requires : tie.Need-byte-3-requires
-byte-3-requires c κs = search needs
-
-byte-0-requires-2 : tie.Need-byte-0-requires-2
-byte-0-requires-2 c κs = search needs
-
-byte-1-requires-2 : tie.Need-byte-1-requires-2
-byte-1-requires-2 c κs = search needs
-
-byte-2-requires-2 : tie.Need-byte-2-requires-2
-byte-2-requires-2 c κs = search needs
-
-byte-3-requires-2 : tie.Need-byte-3-requires-2
-byte-3-requires-2 c κs = search needs
-
 returns : tie.Need-returns
 unfolding bytesOfAll
 returns c =
@@ -62,15 +35,6 @@ returns c =
 
 pub decrement-record-spec : {M : Type 1} → statement M
 decrement-record-spec =
-    tie.close
-    (tie.spec
-    bits-of-requires
-    byte-0-requires
-    byte-1-requires
-    byte-2-requires
-    byte-3-requires
-    byte-0-requires-2
-    byte-1-requires-2
-    byte-2-requires-2
-    byte-3-requires-2
-    returns)
+    tie.close (tie.spec
+    (λ c κs. search needs) (λ c κs. search needs) (λ c κs. search needs) (λ c κs. search needs) (λ c κs. search needs)
+    (λ c κs. search needs) (λ c κs. search needs) (λ c κs. search needs) (λ c κs. search needs) returns)

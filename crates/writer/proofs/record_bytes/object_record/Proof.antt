@@ -9,9 +9,6 @@ use borrow.Author.Needs.{needs}
 use Rattle.writer.proofs.record_bytes.object_record.Statement.{statement}
 use Rattle.writer.proofs.record_bytes.object_record.Tie as tie
 
-none-requires : tie.Need-none-requires
-none-requires c κs = search needs
-
 returns : tie.Need-returns
 returns c = rw (not-true (c .before .before .before .args .x .live) (c .before .if1 .taken)) (c .none .ensures)
 
@@ -33,4 +30,4 @@ returns-2 c =
     })
 
 pub object-record-spec : {M : Type 1} → statement M
-object-record-spec = tie.close (tie.spec none-requires returns returns-2)
+object-record-spec = tie.close (tie.spec (λ c κs. search needs) returns returns-2)

@@ -7,14 +7,8 @@ use borrow.Author.Needs.{needs}
 use Rattle.writer.proofs.stores.store_byte.Statement.{statement}
 use Rattle.writer.proofs.stores.store_byte.Tie as tie
 
-element-write-out : tie.Need-element-write-out
-element-write-out c = search needs
-
-add-result : tie.Need-add-result
-add-result c = search needs
-
 returns : tie.Need-returns
 returns c = let small : c .args .a < 256 = omega arith in record { place = refl; stands = rw (mod-eq-of-lt small) }
 
 pub store-byte-spec : {M : Type 1} → statement M
-store-byte-spec = tie.close (tie.spec element-write-out add-result returns)
+store-byte-spec = tie.close (tie.spec (λ c. search needs) (λ c. search needs) returns)

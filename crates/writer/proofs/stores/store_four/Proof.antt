@@ -8,30 +8,6 @@ use borrow.Author.Needs.{needs}
 use Rattle.writer.proofs.stores.store_four.Statement.{statement}
 use Rattle.writer.proofs.stores.store_four.Tie as tie
 
-element-write-out : tie.Need-element-write-out
-element-write-out c = search needs
-
-add-out : tie.Need-add-out
-add-out c = search needs
-
-element-write-out-2 : tie.Need-element-write-out-2
-element-write-out-2 c = search needs
-
-add-out-2 : tie.Need-add-out-2
-add-out-2 c = search needs
-
-element-write-out-3 : tie.Need-element-write-out-3
-element-write-out-3 c = search needs
-
-add-out-3 : tie.Need-add-out-3
-add-out-3 c = search needs
-
-element-write-out-4 : tie.Need-element-write-out-4
-element-write-out-4 c = search needs
-
-add-result : tie.Need-add-result
-add-result c = search needs
-
 returns : tie.Need-returns
 returns c =
     let x = c .args in
@@ -46,14 +22,6 @@ returns c =
 
 pub store-four-spec : {M : Type 1} → statement M
 store-four-spec =
-    tie.close
-    (tie.spec
-    element-write-out
-    add-out
-    element-write-out-2
-    add-out-2
-    element-write-out-3
-    add-out-3
-    element-write-out-4
-    add-result
-    returns)
+    tie.close (tie.spec
+    (λ c. search needs) (λ c. search needs) (λ c. search needs) (λ c. search needs) (λ c. search needs)
+    (λ c. search needs) (λ c. search needs) (λ c. search needs) returns)

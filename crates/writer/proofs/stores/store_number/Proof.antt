@@ -6,21 +6,6 @@ use borrow.Author.Needs.{needs}
 use Rattle.writer.proofs.stores.store_number.Statement.{statement}
 use Rattle.writer.proofs.stores.store_number.Tie as tie
 
-byte-0-requires : tie.Need-byte-0-requires
-byte-0-requires c κs = search needs
-
-byte-1-requires : tie.Need-byte-1-requires
-byte-1-requires c κs = search needs
-
-byte-2-requires : tie.Need-byte-2-requires
-byte-2-requires c κs = search needs
-
-byte-3-requires : tie.Need-byte-3-requires
-byte-3-requires c κs = search needs
-
-store-four-requires : tie.Need-store-four-requires
-store-four-requires c κs = search needs
-
 returns : tie.Need-returns
 returns c =
     let b3 = c .before .before in
@@ -37,11 +22,6 @@ returns c =
 
 pub store-number-spec : {M : Type 1} → statement M
 store-number-spec =
-    tie.close
-    (tie.spec
-    byte-0-requires
-    byte-1-requires
-    byte-2-requires
-    byte-3-requires
-    store-four-requires
+    tie.close (tie.spec
+    (λ c κs. search needs) (λ c κs. search needs) (λ c κs. search needs) (λ c κs. search needs) (λ c κs. search needs)
     returns)

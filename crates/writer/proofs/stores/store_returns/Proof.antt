@@ -3,14 +3,8 @@ use borrow.Author.Needs.{needs}
 use Rattle.writer.proofs.stores.store_returns.Statement.{statement}
 use Rattle.writer.proofs.stores.store_returns.Tie as tie
 
-bits-of-requires : tie.Need-bits-of-requires
-bits-of-requires c κs = search needs
-
-store-number-requires : tie.Need-store-number-requires
-store-number-requires c κs = search needs
-
 returns : tie.Need-returns
 returns c = rw (c .before .before .bits-of .ensures) at (c .store-number .ensures)
 
 pub store-returns-spec : {M : Type 1} → statement M
-store-returns-spec = tie.close (tie.spec bits-of-requires store-number-requires returns)
+store-returns-spec = tie.close (tie.spec (λ c κs. search needs) (λ c κs. search needs) returns)

@@ -37,9 +37,6 @@ copy-requires c κs =
     let m = c .before .before .before .make .ensures in
     omega (arith, ap length (m .front), m .size, c .before .before .if1 .left)
 
-same-length : tie.Need-same-length
-same-length c = search needs
-
 returns-2 : tie.Need-returns-2
 unfolding putAnswer putLength putBytes
 returns-2 c =
@@ -51,12 +48,5 @@ returns-2 c =
 
 pub put-image-spec : {M : Type 1} → statement M
 put-image-spec =
-    tie.close
-    (tie.spec
-    make-requires
-    returns
-    array-share-prefix-made
-    slice-aggregate-copy
-    copy-requires
-    same-length
-    returns-2)
+    tie.close (tie.spec
+    make-requires returns array-share-prefix-made slice-aggregate-copy copy-requires (λ c. search needs) returns-2)

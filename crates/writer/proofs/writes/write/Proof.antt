@@ -6,20 +6,11 @@ use Rattle.image.specs.Writer.{putAnswer, putLength, putBytes, writeAnswer, wri
 use Rattle.writer.proofs.writes.write.Statement.{statement}
 use Rattle.writer.proofs.writes.write.Tie as tie
 
-fits-requires : tie.Need-fits-requires
-fits-requires c κs = search needs
-
 returns : tie.Need-returns
 unfolding writeAnswer writeLength writeBytes
 returns c =
     let broken = sym (c .before .fits2 .ensures) ∙ not-true _ (c .if1 .taken) in
     (simp broken, (simp broken, simp broken))
-
-put-image-requires : tie.Need-put-image-requires
-put-image-requires c κs = search needs
-
-same-length : tie.Need-same-length
-same-length c = search needs
 
 returns-2 : tie.Need-returns-2
 unfolding putAnswer putLength putBytes writeAnswer writeLength writeBytes
@@ -30,4 +21,4 @@ returns-2 c =
     (put .0 ∙ simp good, (put .1 .0 ∙ simp good, put .1 .1 .0 ∙ simp good))
 
 pub write-spec : {M : Type 1} → statement M
-write-spec = tie.close (tie.spec fits-requires returns put-image-requires same-length returns-2)
+write-spec = tie.close (tie.spec (λ c κs. search needs) returns (λ c κs. search needs) (λ c. search needs) returns-2)
