@@ -45,11 +45,11 @@ module _ (l : List ℕ) (at : ℕ) where
 
 module _ (l : List ℕ) where
   pub live-numbers : payload Live l ≡ getD l 4 0 ∷ getD l 5 0 ∷ getD l 6 0 ∷ getD l 7 0 ∷ getD l 8 0 ∷ []
-  live-numbers = simp (byte-at, getD-drop, drop-drop)
+  live-numbers = simp (byte-at, getD-drop)
 
   pub roots-numbers : payload NodeRoots l
       ≡ getD l 4 0 ∷ getD l 5 0 ∷ getD l 6 0 ∷ getD l 7 0 ∷ getD l 8 0 ∷ getD l 9 0 ∷ getD l 10 0 ∷ getD l 11 0 ∷ getD l 12 0 ∷ []
-  roots-numbers = simp (byte-at, getD-drop, drop-drop)
+  roots-numbers = simp (byte-at, getD-drop)
 
   pub directory-numbers : payload Directory l ≡ getD l 4 0 ∷ numberOf (take 4 (drop 5 l)) ∷ numberOf (take 4 (drop 9 l)) ∷ []
   directory-numbers = rw (drop-drop 1 4 l, drop-drop 4 5 l, byte-at l 4)
@@ -62,7 +62,7 @@ module _ (l : List ℕ) where
       (rw (byte-at l 4, byte-at l 5, byte-at l 10, byte-at l 11))
 
   pub reference-numbers : payload Reference l ≡ getD l 4 0 ∷ getD l 5 0 ∷ getD l 6 0 ∷ getD l 7 0 ∷ []
-  reference-numbers = simp (byte-at, getD-drop, drop-drop)
+  reference-numbers = simp (byte-at, getD-drop)
 
   pub decrement-numbers : payload Decrement l
       ≡ getD l 4 0 ∷ getD l 5 0 ∷ getD l 6 0 ∷ getD l 7 0 ∷ numberOf (take 4 (drop 8 l)) ∷ numberOf (take 4 (drop 12 l)) ∷ []

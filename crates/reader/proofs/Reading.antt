@@ -24,7 +24,7 @@ use Rattle.table.specs.declared.Table.{Table}
 use Rattle.table.specs.Table.{freshTable, cellAt, withCells, withCount, withHeap}
 use Rattle.image.specs.declared.Front.{Front}
 use Rattle.image.specs.declared.RecordKind.{RecordKind}
-use Rattle.image.specs.declared.RecordKind.the-variants.{Count, Live, NodeRoots, Directory, Remote, Reference, Decrement, End}
+use Rattle.image.specs.declared.RecordKind.the-variants.{Count, Live, NodeRoots, Directory, Remote, Reference, Decrement, End, Unknown}
 use Rattle.image.specs.declared.Turn.{Turn}
 use Rattle.image.specs.Content.{number, liveObject, rootsOfNode, referenceMessage, decrementMessage, fitsRecord, withRecord}
 use Rattle.image.specs.Front.{keyOf, frontOf, cellWithDirectory, cellWithRemote}
@@ -46,11 +46,14 @@ unroll zero now t (x ∷ l) le = absurd (omega arith)
 unroll (suc n) now t l le = rw sub-one
 
 -- the rest as the code lends it
-pub rest-is : (s : List ℕ) (at : ℕ) → take (length s - at) (drop at s) ≡ drop at s
+abbrev pub lent : List ℕ → ℕ → List ℕ
+lent s at = take (length s - at) (drop at s)
+
+pub rest-is : (s : List ℕ) (at : ℕ) → lent s at ≡ drop at s
 rest-is s at = take-all (length s - at) (drop at s) (omega (arith, length-drop at s))
 
 -- what the code finds there is the record at the front of what is left
-pub found : (s : List ℕ) (at : ℕ) (turn : Turn) (f : Front) → f ≡ frontOf turn (take (length s - at) (drop at s)) → f ≡ frontOf turn (drop at s)
+pub found : (s : List ℕ) (at : ℕ) (turn : Turn) (f : Front) → f ≡ frontOf turn (lent s at) → f ≡ frontOf turn (drop at s)
 found s at turn f e = e ∙ ap (frontOf turn) (rest-is s at)
 
 -- and does not pass the end of the bytes
@@ -68,36 +71,37 @@ pub at-first : (s : List ℕ) (table : Table) (heap : Heap) → table ≡ freshT
 unfolding read
 at-first s table heap e f = rw (e, f) (record { within = omega arith; fuel = length s; enough = omega arith; same = refl })
 
--- ---- the key of each kind is in range
+-- ---- what a record is about
+
+-- how many things of the sort there are
+abbrev pub limit : RecordKind → ℕ
+limit Count = 1
+limit Live = OBJECTS
+limit NodeRoots = NODES
+limit Directory = OBJECTS
+limit Remote = OBJECTS
+limit Reference = PLACES
+limit Decrement = PLACES
+limit End = 1
+limit Unknown = 1
 
 module _ {now : Turn} {l : List ℕ} {f : Front} where
   -- where the test of the numbers begins with the key, or comes to it
-  key-below : {k : RecordKind} → Good now l k f → (limit : ℕ) (rest : Bool) → (ltb (keyOf k (payload k l)) limit and rest) ≡ true → f .key < limit
-  key-below g limit rest e = rw (g .key) (ltb-true _ limit (and-passes _ rest .0 e .0))
+  tested : {k : RecordKind} → Good now l k f → (most : ℕ) (rest : Bool) → (ltb (keyOf k (payload k l)) most and rest) ≡ true → f .key < most
+  tested g most rest e = rw (g .key) (ltb-true _ most (and-passes _ rest .0 e .0))
 
-  pub live-key : Good now l Live f → f .key < OBJECTS
+  -- it is one of them
+  pub key-below : (k : RecordKind) → Good now l k f → f .key < limit k
   unfolding fitsRecord
-  live-key g = key-below g OBJECTS _ (g .fits)
-
-  pub roots-key : Good now l NodeRoots f → f .key < NODES
-  unfolding fitsRecord
-  roots-key g = key-below g NODES _ (g .fits)
-
-  pub directory-key : Good now l Directory f → f .key < OBJECTS
-  unfolding fitsRecord
-  directory-key g = key-below g OBJECTS _ (g .fits)
-
-  pub remote-key : Good now l Remote f → f .key < OBJECTS
-  unfolding fitsRecord
-  remote-key g = key-below g OBJECTS _ (and-passes (ltb (number (payload Remote l) 0) NODES) _ .0 (g .fits) .1)
-
-  pub reference-key : Good now l Reference f → f .key < PLACES
-  unfolding fitsRecord
-  reference-key g = key-below g PLACES _ (g .fits)
-
-  pub decrement-key : Good now l Decrement f → f .key < PLACES
-  unfolding fitsRecord
-  decrement-key g = key-below g PLACES _ (g .fits)
+  key-below Count g = omega (arith, g .key)
+  key-below Live g = tested g OBJECTS _ (g .fits)
+  key-below NodeRoots g = tested g NODES _ (g .fits)
+  key-below Directory g = tested g OBJECTS _ (g .fits)
+  key-below Remote g = tested g OBJECTS _ (and-passes (ltb (number (payload Remote l) 0) NODES) _ .0 (g .fits) .1)
+  key-below Reference g = tested g PLACES _ (g .fits)
+  key-below Decrement g = tested g PLACES _ (g .fits)
+  key-below End g = omega (arith, g .key)
+  key-below Unknown g = omega (arith, g .key)
 
 -- ---- one record more
 
@@ -137,43 +141,40 @@ module _ {s : List ℕ} {table : Table} {heap : Heap} {turn : Turn} {at : ℕ} (
                 (ap (readFrom (r .fuel - 1) (turnAfter k ns) (withRecord (withHeap table heap) k ns)) (drop-drop (HEAD + lengthOf k) at s));
           }
 
-  -- ---- what the loop stores for each kind
+  -- ---- what the loop stores for each kind, read from the rest as the code lends it
 
-  pub put-count : {f : Front} → Good turn (drop at s) Count f → (n : ℕ) → n ≡ number (payload Count (drop at s)) 0
-      → Reading s (withCount table n) heap (f .next) (at + f .length)
-  unfolding withRecord
-  put-count g n e = onward g refl (withCount table n) heap (rw e)
+  module _ {f : Front} where
+    pub put-count : Good turn (drop at s) Count f → {n : ℕ} → n ≡ number (payload Count (lent s at)) 0
+        → Reading s (withCount table n) heap (f .next) (at + f .length)
+    unfolding withRecord
+    put-count g e = onward g refl _ heap (rw (e, rest-is s at))
 
-  pub put-live : {f : Front} → Good turn (drop at s) Live f → (x : Object) → x ≡ liveObject (payload Live (drop at s))
-      → Reading s table (record { objects = set (heap .objects) (f .key) x; roots = heap .roots }) (f .next) (at + f .length)
-  unfolding withRecord
-  put-live g x e = onward g refl table _ (rw (e, g .key))
+    pub put-live : Good turn (drop at s) Live f → {x : Object} → x ≡ liveObject (payload Live (lent s at))
+        → Reading s table (record { objects = set (heap .objects) (f .key) x; roots = heap .roots }) (f .next) (at + f .length)
+    unfolding withRecord
+    put-live g e = onward g refl table _ (rw (e, g .key, rest-is s at))
 
-  pub put-roots : {f : Front} → Good turn (drop at s) NodeRoots f → (x : Roots) → x ≡ rootsOfNode (payload NodeRoots (drop at s))
-      → Reading s table (record { objects = heap .objects; roots = set (heap .roots) (f .key) x }) (f .next) (at + f .length)
-  unfolding withRecord
-  put-roots g x e = onward g refl table _ (rw (e, g .key))
+    pub put-roots : Good turn (drop at s) NodeRoots f → {x : Roots} → x ≡ rootsOfNode (payload NodeRoots (lent s at))
+        → Reading s table (record { objects = heap .objects; roots = set (heap .roots) (f .key) x }) (f .next) (at + f .length)
+    unfolding withRecord
+    put-roots g e = onward g refl table _ (rw (e, g .key, rest-is s at))
 
-  pub put-directory : {f : Front} → Good turn (drop at s) Directory f
-      → (x : Cell) → x ≡ cellWithDirectory (cellAt table (f .key)) (payload Directory (drop at s))
-      → Reading s (withCells table (set (table .cells) (f .key) x)) heap (f .next) (at + f .length)
-  unfolding withRecord
-  put-directory g x e = onward g refl _ heap (rw (e, g .key))
+    pub put-directory : Good turn (drop at s) Directory f → {x : Cell} → x ≡ cellWithDirectory (cellAt table (f .key)) (payload Directory (lent s at))
+        → Reading s (withCells table (set (table .cells) (f .key) x)) heap (f .next) (at + f .length)
+    unfolding withRecord
+    put-directory g e = onward g refl _ heap (rw (e, g .key, rest-is s at))
 
-  pub put-remote : {f : Front} → Good turn (drop at s) Remote f
-      → (x : Cell) → x ≡ cellWithRemote (cellAt table (f .key)) (payload Remote (drop at s))
-      → Reading s (withCells table (set (table .cells) (f .key) x)) heap (f .next) (at + f .length)
-  unfolding withRecord
-  put-remote g x e = onward g refl _ heap (rw (e, g .key))
+    pub put-remote : Good turn (drop at s) Remote f → {x : Cell} → x ≡ cellWithRemote (cellAt table (f .key)) (payload Remote (lent s at))
+        → Reading s (withCells table (set (table .cells) (f .key) x)) heap (f .next) (at + f .length)
+    unfolding withRecord
+    put-remote g e = onward g refl _ heap (rw (e, g .key, rest-is s at))
 
-  pub put-reference : {f : Front} → Good turn (drop at s) Reference f
-      → (x : Place) → x ≡ record { held = referenceMessage (payload Reference (drop at s)) }
-      → Reading s (withPlace table (f .key) x) heap (f .next) (at + f .length)
-  unfolding withRecord
-  put-reference g x e = onward g refl _ heap (rw (e, g .key))
+    pub put-reference : Good turn (drop at s) Reference f → {x : Place} → x ≡ record { held = referenceMessage (payload Reference (lent s at)) }
+        → Reading s (withPlace table (f .key) x) heap (f .next) (at + f .length)
+    unfolding withRecord
+    put-reference g e = onward g refl _ heap (rw (e, g .key, rest-is s at))
 
-  pub put-decrement : {f : Front} → Good turn (drop at s) Decrement f
-      → (x : Place) → x ≡ record { held = decrementMessage (payload Decrement (drop at s)) }
-      → Reading s (withPlace table (f .key) x) heap (f .next) (at + f .length)
-  unfolding withRecord
-  put-decrement g x e = onward g refl _ heap (rw (e, g .key))
+    pub put-decrement : Good turn (drop at s) Decrement f → {x : Place} → x ≡ record { held = decrementMessage (payload Decrement (lent s at)) }
+        → Reading s (withPlace table (f .key) x) heap (f .next) (at + f .length)
+    unfolding withRecord
+    put-decrement g e = onward g refl _ heap (rw (e, g .key, rest-is s at))
