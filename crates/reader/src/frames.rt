@@ -20,31 +20,17 @@ const LENGTH: u8 = 22;
 fn kind_of(code: u32) -> RecordKind
     ensures { λ r. ⌜ r ≡ kindOfCode code ⌝ }
 {
-    if code == 0x0100 {
-        return RecordKind::Count;
+    match code {
+        0x0100 => RecordKind::Count,
+        0x0101 => RecordKind::Live,
+        0x0102 => RecordKind::NodeRoots,
+        0x0103 => RecordKind::Directory,
+        0x0104 => RecordKind::Remote,
+        0x0105 => RecordKind::Reference,
+        0x0106 => RecordKind::Decrement,
+        0x01FF => RecordKind::End,
+        _ => RecordKind::Unknown,
     }
-    if code == 0x0101 {
-        return RecordKind::Live;
-    }
-    if code == 0x0102 {
-        return RecordKind::NodeRoots;
-    }
-    if code == 0x0103 {
-        return RecordKind::Directory;
-    }
-    if code == 0x0104 {
-        return RecordKind::Remote;
-    }
-    if code == 0x0105 {
-        return RecordKind::Reference;
-    }
-    if code == 0x0106 {
-        return RecordKind::Decrement;
-    }
-    if code == 0x01FF {
-        return RecordKind::End;
-    }
-    RecordKind::Unknown
 }
 
 fn is_unknown(kind: RecordKind) -> bool

@@ -35,33 +35,23 @@ at c = c .before .before .loop .at
 front : (c : At) → c .front-of .result ≡ frontOf (now c) (drop (at c) (all c))
 front c = found (all c) (at c) (now c) (c .front-of .result) (c .front-of .ensures)
 
-loop-holds : tie.Need-loop-holds Inv-loop μ-loop
-loop-holds c = at-start (c .before .args .bytes .now)
-
-add-at : tie.Need-add-at Inv-loop μ-loop
-add-at c =
-    let w = c .before .before in
-    let start = w .before .before .before .before in
-    omega (arith, inside (all w) (at w) (now w) (w .front-of .result) (w .before .before .loop .inv .reading .within) (front w), start .good)
-
-returns : tie.Need-returns Inv-loop μ-loop
-returns c =
-    let w = c .before .before .before .before in
-    sym (accepted (w .before .before .loop .inv) (w .front-of .result) (front w) (c .enum-told .given .1))
-
-returns-2 : tie.Need-returns-2 Inv-loop μ-loop
-returns-2 c =
-    let w = c .before .before .before .before in
-    sym (refused (w .before .before .loop .inv) (w .front-of .result) (front w) (c .enum-told2 .given .1))
-
-loop-less : tie.Need-loop-less Inv-loop μ-loop
-loop-less c = let w = c .before .before .before in fewer (w .before .before .loop .inv) (w .front-of .result) (front w) (c .match .keys3)
-
-loop-again : tie.Need-loop-again Inv-loop μ-loop
-loop-again c = let w = c .before .before .before in further (w .before .before .loop .inv) (w .front-of .result) (front w) (c .match .keys3)
-
 pub check-spec : {M : Type 1} → statement M
 check-spec =
     tie.close (tie.spec
-    Inv-loop μ-loop loop-holds (λ c. search needs) (λ c. search needs) (λ c. search needs) (λ c κs. search needs) add-at
-    (λ c. search needs) returns (λ c. search needs) returns-2 loop-less loop-again)
+    Inv-loop μ-loop
+    (λ c. at-start (c .before .args .bytes .now))
+    (λ c. search needs) (λ c. search needs) (λ c. search needs) (λ c κs. search needs)
+    (λ c.
+    let w = c .before .before in
+    let start = w .before .before .before .before in
+    omega (arith, inside (all w) (at w) (now w) (w .front-of .result) (w .before .before .loop .inv .reading .within) (front w), start .good))
+    (λ c. search needs)
+    (λ c.
+    let w = c .before .before .before .before in
+    sym (accepted (w .before .before .loop .inv) (w .front-of .result) (front w) (c .enum-told .given .1)))
+    (λ c. search needs)
+    (λ c.
+    let w = c .before .before .before .before in
+    sym (refused (w .before .before .loop .inv) (w .front-of .result) (front w) (c .enum-told2 .given .1)))
+    (λ c. let w = c .before .before .before in fewer (w .before .before .loop .inv) (w .front-of .result) (front w) (c .match .keys3))
+    (λ c. let w = c .before .before .before in further (w .before .before .loop .inv) (w .front-of .result) (front w) (c .match .keys3)))

@@ -6,33 +6,22 @@ use borrow.Author.Needs.{needs}
 use Rattle.reader.proofs.contents.fits_remote.Statement.{statement}
 use Rattle.reader.proofs.contents.fits_remote.Tie as tie
 
-returns : tie.Need-returns
+pub fits-remote-spec : {M : Type 1} → statement M
 unfolding fitsRecord
-returns c = rw (remote-node (c .before .before .before .before .args .l .now), le-ltb _ _ (c .if1 .taken))
-
-returns-2 : tie.Need-returns-2
-unfolding fitsRecord
-returns-2 c =
+fits-remote-spec =
+    tie.close (tie.spec
+    (λ c. search needs) (λ c. search needs)
+    (λ c. rw (remote-node (c .before .before .before .before .args .l .now), le-ltb _ _ (c .if1 .taken)))
+    (λ c.
     let l = c .before .before .before .before .before .args .l .now in
-    rw (remote-node l, remote-object l, lt-ltb _ _ (c .before .if1 .left), le-ltb _ _ (c .if2 .taken))
-
-returns-3 : tie.Need-returns-3
-unfolding fitsRecord
-returns-3 c =
+    rw (remote-node l, remote-object l, lt-ltb _ _ (c .before .if1 .left), le-ltb _ _ (c .if2 .taken)))
+    (λ c. search needs)
+    (λ c.
     let o = c .before .before in
     let l = o .before .before .before .before .before .args .l .now in
-    rw (
-      remote-node l,
-      remote-object l,
-      remote-presence l,
-      lt-ltb _ _ (o .before .if1 .left),
-      lt-ltb _ _ (o .if2 .left),
-      lt-leb _ _ (c .if3 .taken),
-    )
-
-returns-4 : tie.Need-returns-4
-unfolding fitsRecord
-returns-4 c =
+    rw (remote-node l, remote-object l, remote-presence l, lt-ltb _ _ (o .before .if1 .left), lt-ltb _ _ (o .if2 .left), lt-leb _ _ (c .if3 .taken)))
+    (λ c κs. search needs) (λ c κs. search needs)
+    (λ c.
     let e = c .before .before in
     let o = e .before .before in
     let l = o .before .before .before .before .before .args .l .now in
@@ -45,10 +34,4 @@ returns-4 c =
       lt-ltb _ _ (o .before .if1 .left),
       lt-ltb _ _ (o .if2 .left),
       le-leb _ _ (e .if3 .left),
-    )
-
-pub fits-remote-spec : {M : Type 1} → statement M
-fits-remote-spec =
-    tie.close (tie.spec
-    (λ c. search needs) (λ c. search needs) returns returns-2 (λ c. search needs) returns-3 (λ c κs. search needs)
-    (λ c κs. search needs) returns-4)
+    )))

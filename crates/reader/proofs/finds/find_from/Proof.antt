@@ -30,52 +30,30 @@ here c = c .before .before .before .before .before .before .before
 small : (c : End) → c .length-of .result ≤ 16
 small c = rw (c .length-of .ensures) (payload-small (c .before .before .before .before .before .kind-of-low .result))
 
-returns : tie.Need-returns Inv-loop μ-loop
-returns c = past _ _ _ (c .if1 .taken)
-
-loop-holds : tie.Need-loop-holds Inv-loop μ-loop
-loop-holds c = at-first _ _ _ (c .if1 .left)
-
-add-loop : tie.Need-add-loop Inv-loop μ-loop
-add-loop c = record { fits = omega (arith, c .loop .inv .within, c .before .before .before .good .0 .1) }
-
-add-kind-of-low : tie.Need-add-kind-of-low Inv-loop μ-loop
-add-kind-of-low c = record { fits = omega (arith, room c) }
-
-add-place-of : tie.Need-add-place-of Inv-loop μ-loop
-add-place-of c = record { fits = omega (arith, room (c .before .before)) }
-
-add-place-of-2 : tie.Need-add-place-of-2 Inv-loop μ-loop
-add-place-of-2 c = record { fits = omega (arith, room (c .before .before .before)) }
-
-returns-2 : tie.Need-returns-2 Inv-loop μ-loop
-returns-2 c =
-    let h = c .before .before .before .before .before .before in
-    stopped (h .before .loop .inv) (h .loop-test .taken) _ (c .before .before .before .before .kind-of-low .ensures) _ (c .before .place-of .ensures)
-    (c .if2 .taken)
-
-add-at : tie.Need-add-at Inv-loop μ-loop
-add-at c = record { fits = omega (arith, small c) }
-
-add-at-2 : tie.Need-add-at-2 Inv-loop μ-loop
-add-at-2 c = record { fits = omega (arith, small c, room (here c)) }
-
-loop-less : tie.Need-loop-less Inv-loop μ-loop
-loop-less c = omega (arith, (here c) .loop-test .taken)
-
-loop-again : tie.Need-loop-again Inv-loop μ-loop
-loop-again c =
-    let h = here c in
-    rw (c .length-of .ensures)
-    (onward (h .before .loop .inv) (h .loop-test .taken) _ (c .before .before .before .before .before .kind-of-low .ensures) _
-    (c .before .before .place-of .ensures) (c .before .if2 .left))
-
-returns-3 : tie.Need-returns-3 Inv-loop μ-loop
-returns-3 c = ended (c .before .loop .inv) (c .loop-test .left)
-
 pub find-from-spec : {M : Type 1} → statement M
 find-from-spec =
     tie.close (tie.spec
-    Inv-loop μ-loop returns loop-holds add-loop add-kind-of-low (λ c. omega arith) (λ c κs. search needs) add-place-of
-    (λ c. omega arith) add-place-of-2 (λ c. omega arith) (λ c κs. search needs) returns-2 (λ c κs. search needs) add-at
-    add-at-2 loop-less loop-again returns-3)
+    Inv-loop μ-loop
+    (λ c. past _ _ _ (c .if1 .taken))
+    (λ c. at-first _ _ _ (c .if1 .left))
+    (λ c. record { fits = omega (arith, c .loop .inv .within, c .before .before .before .good .0 .1) })
+    (λ c. record { fits = omega (arith, room c) })
+    (λ c. omega arith) (λ c κs. search needs)
+    (λ c. record { fits = omega (arith, room (c .before .before)) })
+    (λ c. omega arith)
+    (λ c. record { fits = omega (arith, room (c .before .before .before)) })
+    (λ c. omega arith) (λ c κs. search needs)
+    (λ c.
+    let h = c .before .before .before .before .before .before in
+    stopped (h .before .loop .inv) (h .loop-test .taken) _ (c .before .before .before .before .kind-of-low .ensures) _ (c .before .place-of .ensures)
+    (c .if2 .taken))
+    (λ c κs. search needs)
+    (λ c. record { fits = omega (arith, small c) })
+    (λ c. record { fits = omega (arith, small c, room (here c)) })
+    (λ c. omega (arith, (here c) .loop-test .taken))
+    (λ c.
+    let h = here c in
+    rw (c .length-of .ensures)
+    (onward (h .before .loop .inv) (h .loop-test .taken) _ (c .before .before .before .before .before .kind-of-low .ensures) _
+    (c .before .before .place-of .ensures) (c .before .if2 .left)))
+    (λ c. ended (c .before .loop .inv) (c .loop-test .left)))

@@ -4,37 +4,18 @@ use Rattle.image.specs.Find.{kindOfLow}
 use Rattle.reader.proofs.finds.kind_of_low.Statement.{statement}
 use Rattle.reader.proofs.finds.kind_of_low.Tie as tie
 
-returns : tie.Need-returns
+pub kind-of-low-spec : {M : Type 1} → statement M
 unfolding kindOfLow
-returns c = simp (c .match .keys1)
-
-returns-2 : tie.Need-returns-2
-unfolding kindOfLow
-returns-2 c = simp (c .match .keys2)
-
-returns-3 : tie.Need-returns-3
-unfolding kindOfLow
-returns-3 c = simp (c .match .keys3)
-
-returns-4 : tie.Need-returns-4
-unfolding kindOfLow
-returns-4 c = simp (c .match .keys4)
-
-returns-5 : tie.Need-returns-5
-unfolding kindOfLow
-returns-5 c = simp (c .match .keys5)
-
-returns-6 : tie.Need-returns-6
-unfolding kindOfLow
-returns-6 c = simp (c .match .keys6)
-
-returns-7 : tie.Need-returns-7
-unfolding kindOfLow
-returns-7 c = simp (c .match .keys7)
-
-returns-8 : tie.Need-returns-8
-unfolding kindOfLow
-returns-8 c =
+kind-of-low-spec =
+    tie.close (tie.spec
+    (λ c. simp (c .match .keys1))
+    (λ c. simp (c .match .keys2))
+    (λ c. simp (c .match .keys3))
+    (λ c. simp (c .match .keys4))
+    (λ c. simp (c .match .keys5))
+    (λ c. simp (c .match .keys6))
+    (λ c. simp (c .match .keys7))
+    (λ c.
     simp (
       ne-eqb _ _ (c .match .rest .0 .0 .0 .0 .0 .0 .1),
       ne-eqb _ _ (c .match .rest .0 .0 .0 .0 .0 .1),
@@ -43,8 +24,4 @@ returns-8 c =
       ne-eqb _ _ (c .match .rest .0 .0 .1),
       ne-eqb _ _ (c .match .rest .0 .1),
       ne-eqb _ _ (c .match .rest .1),
-    )
-
-pub kind-of-low-spec : {M : Type 1} → statement M
-kind-of-low-spec =
-    tie.close (tie.spec returns returns-2 returns-3 returns-4 returns-5 returns-6 returns-7 returns-8)
+    )))

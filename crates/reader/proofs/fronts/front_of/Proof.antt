@@ -5,19 +5,12 @@ use borrow.Author.Needs.{needs}
 use Rattle.reader.proofs.fronts.front_of.Statement.{statement}
 use Rattle.reader.proofs.fronts.front_of.Tie as tie
 
-whole-of-requires : tie.Need-whole-of-requires
-whole-of-requires c κs =
-    let f = c .before .before .before in
-    whole-long (f .before .before .args .l .now) _ (sym (f .frame-of .ensures) ∙ c .before .frame2 .given .1)
-
-returns : tie.Need-returns
-returns c = rw (sym (c .before .before .before .before .frame-of .ensures) ∙ c .before .before .frame .given .1) (c .no-front .ensures)
-
-returns-2 : tie.Need-returns-2
-returns-2 c = rw (sym (c .before .before .before .before .frame-of .ensures) ∙ c .before .before .frame2 .given .1) (c .whole-of .ensures)
-
 pub front-of-spec : {M : Type 1} → statement M
 front-of-spec =
     tie.close (tie.spec
-    (λ c κs. search needs) (λ c. search needs) (λ c κs. search needs) (λ c. search needs) whole-of-requires returns
-    returns-2)
+    (λ c κs. search needs) (λ c. search needs) (λ c κs. search needs) (λ c. search needs)
+    (λ c κs.
+    let f = c .before .before .before in
+    whole-long (f .before .before .args .l .now) _ (sym (f .frame-of .ensures) ∙ c .before .frame2 .given .1))
+    (λ c. rw (sym (c .before .before .before .before .frame-of .ensures) ∙ c .before .before .frame .given .1) (c .no-front .ensures))
+    (λ c. rw (sym (c .before .before .before .before .frame-of .ensures) ∙ c .before .before .frame2 .given .1) (c .whole-of .ensures)))

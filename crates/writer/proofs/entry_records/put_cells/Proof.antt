@@ -42,33 +42,21 @@ Inv-loop3 out₀ from cells at₀ p o q₀ out at q =
 abbrev μ-loop3 : tie.MeasureT-loop3
 μ-loop3 out₀ from cells at₀ p o q₀ out at q = NODES - q
 
-loop-holds :
-    tie.Need-loop-holds Inv-loop2 μ-loop2 Inv-loop μ-loop Inv-loop4 μ-loop4 Inv-loop3 μ-loop3
-loop-holds c = (omega arith, omega arith, put-start DIRECTORY-BYTES (directoryOf (c .args .t3)) _ _)
-
-loop2-holds :
-    tie.Need-loop2-holds Inv-loop2 μ-loop2 Inv-loop μ-loop Inv-loop4 μ-loop4 Inv-loop3 μ-loop3
-loop2-holds c = (omega arith, omega arith, λ before first done. done)
-
-put-directory-requires :
-    tie.Need-put-directory-requires
-    Inv-loop2
-    μ-loop2
-    Inv-loop
-    μ-loop
-    Inv-loop4
-    μ-loop4
-    Inv-loop3
-    μ-loop3
-put-directory-requires c κs =
+pub put-cells-spec : {M : Type 1} → statement M
+put-cells-spec =
+    tie.close (tie.spec
+    Inv-loop2 μ-loop2 Inv-loop μ-loop Inv-loop4 μ-loop4 Inv-loop3 μ-loop3
+    (λ c. (omega arith, omega arith, put-start DIRECTORY-BYTES (directoryOf (c .args .t3)) _ _))
+    (λ c. search needs) (λ c. search needs) (λ c. search needs)
+    (λ c. (omega arith, omega arith, λ before first done. done))
+    (λ c. search needs) (λ c. search needs) (λ c. search needs) (λ c. search needs) (λ c. search needs)
+    (λ c κs.
     let inner = c .before .before .before .before .loop2 in
     let outer = c .before .before .before .before .before .before in
     let so-far = inner .inv .2 _ _ (outer .loop .inv .2) in
-    omega (arith, so-far .small, inner .inv .1, outer .before .pre)
-
-loop2-again :
-    tie.Need-loop2-again Inv-loop2 μ-loop2 Inv-loop μ-loop Inv-loop4 μ-loop4 Inv-loop3 μ-loop3
-loop2-again c =
+    omega (arith, so-far .small, inner .inv .1, outer .before .pre))
+    (λ c. search needs) (λ c. omega arith)
+    (λ c.
     let inner = c .before .before .before .before .before .loop2 in
     let outer = c .before .before .before .before .before .before .before in
     let own : owner (inner .o) ≡ outer .loop .p = omega (arith, inner .inv .0, outer .loop .inv .1) in
@@ -76,71 +64,38 @@ loop2-again c =
       omega arith,
       omega arith,
       λ before first done. put-more DIRECTORY-BYTES (directoryOf (outer .before .args .t3)) (inner .o) (inner .inv .2 before first done) directory,
-    )
-
-loop-again :
-    tie.Need-loop-again Inv-loop2 μ-loop2 Inv-loop μ-loop Inv-loop4 μ-loop4 Inv-loop3 μ-loop3
-loop-again c =
+    ))
+    (λ c. search needs) (λ c. omega arith)
+    (λ c.
     let inner = c .before .loop2 in
     let outer = c .before .before .before .loop in
-    (omega arith, omega (arith, inner .inv .1, outer .inv .1), inner .inv .2 _ _ (outer .inv .2))
-
-loop3-holds :
-    tie.Need-loop3-holds Inv-loop2 μ-loop2 Inv-loop μ-loop Inv-loop4 μ-loop4 Inv-loop3 μ-loop3
-loop3-holds c = (omega arith, put-start (REMOTE-BYTES * OBJECTS) (λ n. gather OBJECTS (remoteOf (c .before .before .args .t3) n)) _ _)
-
-loop4-holds :
-    tie.Need-loop4-holds Inv-loop2 μ-loop2 Inv-loop μ-loop Inv-loop4 μ-loop4 Inv-loop3 μ-loop3
-loop4-holds c = (omega arith, put-start REMOTE-BYTES (remoteOf (c .before .before .before .before .args .t3) (c .before .loop3 .q)) _ _)
-
-put-remote-requires :
-    tie.Need-put-remote-requires
-    Inv-loop2
-    μ-loop2
-    Inv-loop
-    μ-loop
-    Inv-loop4
-    μ-loop4
-    Inv-loop3
-    μ-loop3
-put-remote-requires c κs =
+    (omega arith, omega (arith, inner .inv .1, outer .inv .1), inner .inv .2 _ _ (outer .inv .2)))
+    (λ c. (omega arith, put-start (REMOTE-BYTES * OBJECTS) (λ n. gather OBJECTS (remoteOf (c .before .before .args .t3) n)) _ _))
+    (λ c. search needs)
+    (λ c. (omega arith, put-start REMOTE-BYTES (remoteOf (c .before .before .before .before .args .t3) (c .before .loop3 .q)) _ _))
+    (λ c. search needs) (λ c. search needs) (λ c. search needs) (λ c. search needs) (λ c. search needs)
+    (λ c κs.
     let inner = c .before .before .before .before .loop4 in
     let outer = c .before .before .before .before .before .before .loop3 in
     let owners = c .before .before .before .before .before .before .before .before in
-    omega (arith, inner .inv .1 .small, outer .inv .1 .small, owners .loop .inv .1, owners .loop .inv .2 .small, owners .before .pre)
-
-loop4-again :
-    tie.Need-loop4-again Inv-loop2 μ-loop2 Inv-loop μ-loop Inv-loop4 μ-loop4 Inv-loop3 μ-loop3
-loop4-again c =
+    omega (arith, inner .inv .1 .small, outer .inv .1 .small, owners .loop .inv .1, owners .loop .inv .2 .small, owners .before .pre))
+    (λ c. search needs) (λ c. omega arith)
+    (λ c.
     let inner = c .before .before .before .before .before .loop4 in
     let outer = c .before .before .before .before .before .before .before in
     let cells = outer .before .before .before .args .t3 in
-    (omega arith, put-more REMOTE-BYTES (remoteOf cells (outer .loop3 .q)) (inner .x) (inner .inv .1) (c .put-remote .ensures))
-
-loop3-again :
-    tie.Need-loop3-again Inv-loop2 μ-loop2 Inv-loop μ-loop Inv-loop4 μ-loop4 Inv-loop3 μ-loop3
-loop3-again c =
+    (omega arith, put-more REMOTE-BYTES (remoteOf cells (outer .loop3 .q)) (inner .x) (inner .inv .1) (c .put-remote .ensures)))
+    (λ c. search needs) (λ c. omega arith)
+    (λ c.
     let inner = c .before .loop4 in
     let outer = c .before .before .before in
     let cells = outer .before .before .before .args .t3 in
     let all : inner .x ≡ OBJECTS = omega arith in
     let node = rw all at (inner .inv .1) in
-    (omega arith, put-more (REMOTE-BYTES * OBJECTS) (λ p. gather OBJECTS (remoteOf cells p)) (outer .loop3 .q) (outer .loop3 .inv .1) node)
-
-returns : tie.Need-returns Inv-loop2 μ-loop2 Inv-loop μ-loop Inv-loop4 μ-loop4 Inv-loop3 μ-loop3
-returns c =
+    (omega arith, put-more (REMOTE-BYTES * OBJECTS) (λ p. gather OBJECTS (remoteOf cells p)) (outer .loop3 .q) (outer .loop3 .inv .1) node))
+    (λ c.
     let directories = c .before .before .before .loop in
     let others = c .before .loop3 in
     let all-directories : directories .o ≡ OBJECTS = omega (arith, directories .inv .1) in
     let all-others : others .q ≡ NODES = omega arith in
-    put-both (rw all-directories at (directories .inv .2)) (rw all-others at (others .inv .1))
-
-pub put-cells-spec : {M : Type 1} → statement M
-put-cells-spec =
-    tie.close (tie.spec
-    Inv-loop2 μ-loop2 Inv-loop μ-loop Inv-loop4 μ-loop4 Inv-loop3 μ-loop3 loop-holds (λ c. search needs)
-    (λ c. search needs) (λ c. search needs) loop2-holds (λ c. search needs) (λ c. search needs) (λ c. search needs)
-    (λ c. search needs) (λ c. search needs) put-directory-requires (λ c. search needs) (λ c. omega arith) loop2-again
-    (λ c. search needs) (λ c. omega arith) loop-again loop3-holds (λ c. search needs) loop4-holds (λ c. search needs)
-    (λ c. search needs) (λ c. search needs) (λ c. search needs) (λ c. search needs) put-remote-requires
-    (λ c. search needs) (λ c. omega arith) loop4-again (λ c. search needs) (λ c. omega arith) loop3-again returns)
+    put-both (rw all-directories at (directories .inv .2)) (rw all-others at (others .inv .1))))

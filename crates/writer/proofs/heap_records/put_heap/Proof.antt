@@ -32,43 +32,30 @@ Inv-loop2 out₀ from h at₀ o p₀ out at p = (p ≤ NODES) × Put (ROOTS-BYTE
 abbrev μ-loop2 : tie.MeasureT-loop2
 μ-loop2 out₀ from h at₀ o p₀ out at p = NODES - p
 
-loop-holds : tie.Need-loop-holds Inv-loop μ-loop Inv-loop2 μ-loop2
-loop-holds c = (omega arith, put-start OBJECT-BYTES (live (c .args .t3)) _ _)
-
-put-object-requires : tie.Need-put-object-requires Inv-loop μ-loop Inv-loop2 μ-loop2
-put-object-requires c κs = omega (arith, c .before .before .before .loop .inv .1 .small, c .before .before .before .before .pre)
-
-loop-again : tie.Need-loop-again Inv-loop μ-loop Inv-loop2 μ-loop2
-loop-again c =
+pub put-heap-spec : {M : Type 1} → statement M
+put-heap-spec =
+    tie.close (tie.spec
+    Inv-loop μ-loop Inv-loop2 μ-loop2
+    (λ c. (omega arith, put-start OBJECT-BYTES (live (c .args .t3)) _ _))
+    (λ c. search needs) (λ c. search needs) (λ c. search needs)
+    (λ c κs. omega (arith, c .before .before .before .loop .inv .1 .small, c .before .before .before .before .pre))
+    (λ c. search needs) (λ c. omega arith)
+    (λ c.
     let h = c .before .before .before .before in
-    (omega arith, put-more OBJECT-BYTES (live (h .before .args .t3)) (h .loop .o) (h .loop .inv .1) (c .put-object .ensures))
-
-loop2-holds : tie.Need-loop2-holds Inv-loop μ-loop Inv-loop2 μ-loop2
-loop2-holds c = (omega arith, put-start ROOTS-BYTES (node (c .before .before .args .t3)) _ _)
-
-put-roots-requires : tie.Need-put-roots-requires Inv-loop μ-loop Inv-loop2 μ-loop2
-put-roots-requires c κs =
+    (omega arith, put-more OBJECT-BYTES (live (h .before .args .t3)) (h .loop .o) (h .loop .inv .1) (c .put-object .ensures)))
+    (λ c. (omega arith, put-start ROOTS-BYTES (node (c .before .before .args .t3)) _ _))
+    (λ c. search needs) (λ c. search needs) (λ c. search needs)
+    (λ c κs.
     let nodes = c .before .before .before in
     let objects = nodes .before .before in
-    omega (arith, nodes .loop2 .inv .1 .small, objects .loop .inv .1 .small, objects .before .pre)
-
-loop2-again : tie.Need-loop2-again Inv-loop μ-loop Inv-loop2 μ-loop2
-loop2-again c =
+    omega (arith, nodes .loop2 .inv .1 .small, objects .loop .inv .1 .small, objects .before .pre))
+    (λ c. search needs) (λ c. omega arith)
+    (λ c.
     let h = c .before .before .before .before in
-    (omega arith, put-more ROOTS-BYTES (node (h .before .before .before .args .t3)) (h .loop2 .p) (h .loop2 .inv .1) (c .put-roots .ensures))
-
-returns : tie.Need-returns Inv-loop μ-loop Inv-loop2 μ-loop2
-returns c =
+    (omega arith, put-more ROOTS-BYTES (node (h .before .before .before .args .t3)) (h .loop2 .p) (h .loop2 .inv .1) (c .put-roots .ensures)))
+    (λ c.
     let objects = c .before .before .before .loop in
     let roots = c .before .loop2 in
     let all-objects : objects .o ≡ OBJECTS = omega arith in
     let all-roots : roots .p ≡ NODES = omega arith in
-    put-both (rw all-objects at (objects .inv .1)) (rw all-roots at (roots .inv .1))
-
-pub put-heap-spec : {M : Type 1} → statement M
-put-heap-spec =
-    tie.close (tie.spec
-    Inv-loop μ-loop Inv-loop2 μ-loop2 loop-holds (λ c. search needs) (λ c. search needs) (λ c. search needs)
-    put-object-requires (λ c. search needs) (λ c. omega arith) loop-again loop2-holds (λ c. search needs)
-    (λ c. search needs) (λ c. search needs) put-roots-requires (λ c. search needs) (λ c. omega arith) loop2-again
-    returns)
+    put-both (rw all-objects at (objects .inv .1)) (rw all-roots at (roots .inv .1))))

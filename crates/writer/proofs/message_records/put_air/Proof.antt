@@ -16,24 +16,17 @@ Inv-loop out₀ from air at₀ s₀ out at s = (s ≤ PLACES) × Put (MESSAGE-BY
 abbrev μ-loop : tie.MeasureT-loop
 μ-loop out₀ from air at₀ s₀ out at s = PLACES - s
 
-loop-holds : tie.Need-loop-holds Inv-loop μ-loop
-loop-holds c = (omega arith, put-start MESSAGE-BYTES (messageOf (c .args .t3)) _ _)
-
-put-message-requires : tie.Need-put-message-requires Inv-loop μ-loop
-put-message-requires c κs = omega (arith, c .before .before .before .loop .inv .1 .small, c .before .before .before .before .pre)
-
-loop-again : tie.Need-loop-again Inv-loop μ-loop
-loop-again c =
-    let h = c .before .before .before .before in
-    (omega arith, put-more MESSAGE-BYTES (messageOf (h .before .args .t3)) (h .loop .s) (h .loop .inv .1) (c .put-message .ensures))
-
-returns : tie.Need-returns Inv-loop μ-loop
-returns c =
-    let all : c .before .loop .s ≡ PLACES = omega arith in
-    rw all at (c .before .loop .inv .1)
-
 pub put-air-spec : {M : Type 1} → statement M
 put-air-spec =
     tie.close (tie.spec
-    Inv-loop μ-loop loop-holds (λ c. search needs) (λ c. search needs) (λ c. search needs) put-message-requires
-    (λ c. search needs) (λ c. omega arith) loop-again returns)
+    Inv-loop μ-loop
+    (λ c. (omega arith, put-start MESSAGE-BYTES (messageOf (c .args .t3)) _ _))
+    (λ c. search needs) (λ c. search needs) (λ c. search needs)
+    (λ c κs. omega (arith, c .before .before .before .loop .inv .1 .small, c .before .before .before .before .pre))
+    (λ c. search needs) (λ c. omega arith)
+    (λ c.
+    let h = c .before .before .before .before in
+    (omega arith, put-more MESSAGE-BYTES (messageOf (h .before .args .t3)) (h .loop .s) (h .loop .inv .1) (c .put-message .ensures)))
+    (λ c.
+    let all : c .before .loop .s ≡ PLACES = omega arith in
+    rw all at (c .before .loop .inv .1)))

@@ -4,17 +4,10 @@ use borrow.Author.Needs.{needs}
 use Rattle.writer.proofs.message_records.put_message.Statement.{statement}
 use Rattle.writer.proofs.message_records.put_message.Tie as tie
 
-returns : tie.Need-returns
-returns c = rw (c .enum-told .given .1) (put-none _ _ _)
-
-returns-2 : tie.Need-returns-2
-returns-2 c = rw (c .before .before .before .m .given .1) (c .put-reference .ensures)
-
-returns-3 : tie.Need-returns-3
-returns-3 c = rw (c .before .before .before .m2 .given .1) (c .put-decrement .ensures)
-
 pub put-message-spec : {M : Type 1} → statement M
 put-message-spec =
     tie.close (tie.spec
-    (λ c. search needs) (λ c. search needs) (λ c κs. search needs) (λ c. search needs) (λ c κs. search needs) returns
-    returns-2 returns-3)
+    (λ c. search needs) (λ c. search needs) (λ c κs. search needs) (λ c. search needs) (λ c κs. search needs)
+    (λ c. rw (c .enum-told .given .1) (put-none _ _ _))
+    (λ c. rw (c .before .before .before .m .given .1) (c .put-reference .ensures))
+    (λ c. rw (c .before .before .before .m2 .given .1) (c .put-decrement .ensures)))

@@ -15,31 +15,23 @@ Inv-loop out₀ text done₀ out done = (done ≤ length text) × (length out �
 abbrev μ-loop : tie.MeasureT-loop
 μ-loop out₀ text done₀ out done = length text - done
 
-loop-holds : tie.Need-loop-holds Inv-loop μ-loop
-loop-holds c = (omega arith, refl, refl)
-
-loop-again : tie.Need-loop-again Inv-loop μ-loop
-loop-again c =
+pub copy-spec : {M : Type 1} → statement M
+copy-spec =
+    tie.close (tie.spec
+    Inv-loop μ-loop
+    (λ c. (omega arith, refl, refl))
+    (λ c. omega arith) (λ c. omega arith) (λ c. omega arith) (λ c. omega arith)
+    (λ c.
     let h = c .before .before in
     let a = h .before .args in
     let more = sets-more (a .out .now) 0 (a .text .now) (h .loop .done) (omega arith) in (
       omega arith,
       simp length-set (h .loop .inv .1),
       rw (h .loop .inv .2) (rw zero-add at more),
-    )
-
-same-length : tie.Need-same-length Inv-loop μ-loop
-same-length c = c .before .loop .inv .1
-
-returns : tie.Need-returns Inv-loop μ-loop
-returns c =
+    ))
+    (λ c. c .before .loop .inv .1)
+    (λ c.
     let h = c .before in
     let a = h .before .args in
     let all : h .loop .done ≡ length (a .text .now) = omega arith in
-    h .loop .inv .2 ∙ rw (all, take-length) (sets-front (a .out .now) (a .text .now) (h .before .pre))
-
-pub copy-spec : {M : Type 1} → statement M
-copy-spec =
-    tie.close (tie.spec
-    Inv-loop μ-loop loop-holds (λ c. omega arith) (λ c. omega arith) (λ c. omega arith) (λ c. omega arith) loop-again
-    same-length returns)
+    h .loop .inv .2 ∙ rw (all, take-length) (sets-front (a .out .now) (a .text .now) (h .before .pre))))
