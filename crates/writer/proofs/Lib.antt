@@ -1,2 +1,4 @@
 pub mod Bits
 pub mod InOrder
+pub mod OneByte
+pub mod Turns

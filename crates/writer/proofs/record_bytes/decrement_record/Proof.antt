@@ -1,10 +1,9 @@
 -- `writer::record_bytes::decrement_record` makes the record of a decrement. Assumes nothing.
 use mathlib.Core.Path.{refl}
-use Prim.Native.Nat.{_<_}
-use native.Mathlib.Nat.{mod-eq-of-lt}
 use native.Mathlib.Omega.{arith}
 use Rattle.image.specs.Writer.{bytesOfAll}
 use borrow.Author.Needs.{needs}
+use Rattle.writer.proofs.OneByte.{byte}
 use Rattle.writer.proofs.record_bytes.decrement_record.Statement.{statement}
 use Rattle.writer.proofs.record_bytes.decrement_record.Tie as tie
 
@@ -20,17 +19,13 @@ returns c =
     let b0 = b1 .before in
     let told = b0 .before in
     let x = told .before .args in
-    let s : x .s < 256 = omega arith in
-    let from : x .from < 256 = omega arith in
-    let to : x .to < 256 = omega arith in
-    let o : x .o < 256 = omega arith in
     record {
       room = refl;
       small = omega arith;
       size = refl;
       front = rw (c .byte-32 .ensures, c2 .byte-22 .ensures, c1 .byte-12 .ensures, c0 .byte-02 .ensures)
           (rw (b3 .byte-3 .ensures, b2 .byte-2 .ensures, b1 .byte-1 .ensures, b0 .byte-0 .ensures, told .bits-of .ensures)
-          (rw (mod-eq-of-lt s, mod-eq-of-lt from, mod-eq-of-lt to, mod-eq-of-lt o)));
+          (rw (byte (x .s) (omega arith), byte (x .from) (omega arith), byte (x .to) (omega arith), byte (x .o) (omega arith))));
     }
 
 pub decrement-record-spec : {M : Type 1} → statement M

@@ -1,10 +1,9 @@
 -- `writer::record_bytes::directory_record` makes a directory's record. Assumes nothing.
 use mathlib.Core.Path.{refl}
-use Prim.Native.Nat.{_<_}
-use native.Mathlib.Nat.{mod-eq-of-lt}
 use native.Mathlib.Omega.{arith}
 use Rattle.image.specs.Writer.{bytesOfAll}
 use borrow.Author.Needs.{needs}
+use Rattle.writer.proofs.OneByte.{byte}
 use Rattle.writer.proofs.record_bytes.directory_record.Statement.{statement}
 use Rattle.writer.proofs.record_bytes.directory_record.Tie as tie
 
@@ -19,14 +18,13 @@ returns c =
     let b1 = b2 .before in
     let b0 = b1 .before in
     let told = b0 .before in
-    let o : told .before .before .args .o < 256 = omega arith in
     record {
       room = refl;
       small = omega arith;
       size = refl;
       front = rw (c .byte-32 .ensures, c2 .byte-22 .ensures, c1 .byte-12 .ensures, c0 .byte-02 .ensures)
           (rw (b3 .byte-3 .ensures, b2 .byte-2 .ensures, b1 .byte-1 .ensures, b0 .byte-0 .ensures, told .bits-of .ensures)
-          (rw (mod-eq-of-lt o)));
+          (rw (byte (told .before .before .args .o) (omega arith))));
     }
 
 pub directory-record-spec : {M : Type 1} → statement M

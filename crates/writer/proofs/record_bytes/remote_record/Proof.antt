@@ -1,11 +1,10 @@
 -- `writer::record_bytes::remote_record` makes the record of an entry that isn't the owner's. Assumes nothing.
 use mathlib.Core.Path.{refl}
-use Prim.Native.Nat.{_<_}
-use native.Mathlib.Nat.{mod-eq-of-lt}
 use native.Mathlib.Omega.{arith}
 use Rattle.image.specs.Writer.{bytesOfAll}
 use Rattle.terms.specs.Counted.{one}
 use borrow.Author.Needs.{needs}
+use Rattle.writer.proofs.OneByte.{byte}
 use Rattle.writer.proofs.record_bytes.remote_record.Statement.{statement}
 use Rattle.writer.proofs.record_bytes.remote_record.Tie as tie
 
@@ -26,10 +25,6 @@ returns c =
     let told = b0 .before in
     let present = told .before .before .before in
     let x = present .before .args in
-    let p : x .p < 256 = omega arith in
-    let o : x .o < 256 = omega arith in
-    let parent : x .e .parent < 256 = omega (arith, present .before .good .1 .1 .0 .1 .1 .1 .0) in
-    let there : one (x .e .presence) < 256 = omega arith in
     record {
       room = refl;
       small = omega arith;
@@ -37,7 +32,7 @@ returns c =
       front = rw (c .byte-33 .ensures, d2 .byte-23 .ensures, d1 .byte-13 .ensures, d0 .byte-03 .ensures)
           (rw (c3 .byte-32 .ensures, c2 .byte-22 .ensures, c1 .byte-12 .ensures, c0 .byte-02 .ensures)
           (rw (b3 .byte-3 .ensures, b2 .byte-2 .ensures, b1 .byte-1 .ensures, b0 .byte-0 .ensures, told .bits-of .ensures)
-          (rw (present .one-if .ensures, mod-eq-of-lt p, mod-eq-of-lt o, mod-eq-of-lt parent, mod-eq-of-lt there))));
+          (rw (present .one-if .ensures, byte (x .p) (omega arith), byte (x .o) (omega arith), byte (x .e .parent) (omega (arith, present .before .good .1 .1 .0 .1 .1 .1 .0)), byte (one (x .e .presence)) (omega arith)))));
     }
 
 pub remote-record-spec : {M : Type 1} → statement M

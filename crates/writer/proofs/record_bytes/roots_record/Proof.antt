@@ -1,9 +1,8 @@
 -- `writer::record_bytes::roots_record` makes the record of a node's roots. Assumes nothing.
 use mathlib.Core.Path.{refl}
-use Prim.Native.Nat.{_<_}
-use native.Mathlib.Nat.{mod-eq-of-lt}
 use native.Mathlib.Omega.{arith}
 use Rattle.image.specs.Writer.{bytesOfAll}
+use Rattle.writer.proofs.OneByte.{byte}
 use Rattle.writer.proofs.record_bytes.roots_record.Statement.{statement}
 use Rattle.writer.proofs.record_bytes.roots_record.Tie as tie
 
@@ -11,21 +10,12 @@ returns : tie.Need-returns
 unfolding bytesOfAll
 returns c =
     let x = c .args .x in
-    let p : c .args .p < 256 = omega arith in
-    let r0 : x .r0 < 256 = omega arith in
-    let r1 : x .r1 < 256 = omega arith in
-    let r2 : x .r2 < 256 = omega arith in
-    let r3 : x .r3 < 256 = omega arith in
-    let r4 : x .r4 < 256 = omega arith in
-    let r5 : x .r5 < 256 = omega arith in
-    let r6 : x .r6 < 256 = omega arith in
-    let r7 : x .r7 < 256 = omega arith in
     record {
       room = refl;
       small = omega arith;
       size = refl;
-      front = rw (mod-eq-of-lt p, mod-eq-of-lt r0, mod-eq-of-lt r1, mod-eq-of-lt r2, mod-eq-of-lt r3)
-          (rw (mod-eq-of-lt r4, mod-eq-of-lt r5, mod-eq-of-lt r6, mod-eq-of-lt r7));
+      front = rw (byte (c .args .p) (omega arith), byte (x .r0) (omega arith), byte (x .r1) (omega arith), byte (x .r2) (omega arith), byte (x .r3) (omega arith))
+          (rw (byte (x .r4) (omega arith), byte (x .r5) (omega arith), byte (x .r6) (omega arith), byte (x .r7) (omega arith)));
     }
 
 pub roots-record-spec : {M : Type 1} → statement M

@@ -1,8 +1,8 @@
 -- `writer::stores::store_number` stores the four bytes of a number. Assumes nothing.
-use Prim.Native.Nat.{_/_, _%_, _<_}
-use native.Mathlib.Nat.{mod-eq-of-lt}
+use Prim.Native.Nat.{_/_, _%_}
 use native.Mathlib.Omega.{arith}
 use borrow.Author.Needs.{needs}
+use Rattle.writer.proofs.OneByte.{byte}
 use Rattle.writer.proofs.stores.store_number.Statement.{statement}
 use Rattle.writer.proofs.stores.store_number.Tie as tie
 
@@ -13,12 +13,8 @@ returns c =
     let b1 = b2 .before in
     let b0 = b1 .before in
     let x = b0 .before .args .x in
-    let s0 : x % 256 < 256 = omega arith in
-    let s1 : x / 256 % 256 < 256 = omega arith in
-    let s2 : x / 256 / 256 % 256 < 256 = omega arith in
-    let s3 : x / 256 / 256 / 256 % 256 < 256 = omega arith in
     let bytes = rw (b0 .byte-0 .ensures, b1 .byte-1 .ensures, b2 .byte-2 .ensures, b3 .byte-3 .ensures) at (c .store-four .ensures) in
-    rw (mod-eq-of-lt s0, mod-eq-of-lt s1, mod-eq-of-lt s2, mod-eq-of-lt s3) at bytes
+    rw (byte (x % 256) (omega arith), byte (x / 256 % 256) (omega arith), byte (x / 256 / 256 % 256) (omega arith), byte (x / 256 / 256 / 256 % 256) (omega arith)) at bytes
 
 pub store-number-spec : {M : Type 1} → statement M
 store-number-spec =
