@@ -21,7 +21,8 @@ use Rattle.table.specs.declared.Table.{Table}
 use Rattle.table.specs.Shape.{fitsCount, fitsMessage}
 use Rattle.table.specs.Table.{withCount, withEntry, withHeap, withMessage}
 use Rattle.image.specs.declared.RecordKind.{RecordKind}
-use Rattle.image.specs.declared.RecordKind.the-variants.{Count, Live, NodeRoots, Directory, Remote as RemoteEntry, Reference, Decrement, End, Unknown}
+use Rattle.image.specs.declared.RecordKind.the-variants.{Count, Live, NodeRoots, Directory, Reference, Decrement, End, Unknown}
+use Rattle.image.specs.declared.RecordKind.the-variants.{Remote as RemoteEntry}
 use Rattle.terms.specs.Bytes.{signed}
 
 -- the number at a position of the payload

@@ -6,14 +6,11 @@ use borrow.Author.Needs.{needs}
 use Rattle.reader.proofs.contents.fits_decrement.Statement.{statement}
 use Rattle.reader.proofs.contents.fits_decrement.Tie as tie
 
-returns : tie.Need-returns
-unfolding fitsRecord
-returns c = simp (byte-at, le-ltb _ _ (c .if1 .taken))
-
-returns-2 : tie.Need-returns-2
-unfolding fitsRecord
-returns-2 c = simp (c .fits2 .ensures, c .before .decrement-in .ensures, byte-at, lt-ltb _ _ (c .before .before .if1 .left))
-
 pub fits-decrement-spec : {M : Type 1} → statement M
+unfolding fitsRecord
 fits-decrement-spec =
-    tie.close (tie.spec (λ c. search needs) returns (λ c κs. search needs) (λ c κs. search needs) returns-2)
+    tie.close (tie.spec
+    (λ c. search needs)
+    (λ c. simp (byte-at, le-ltb _ _ (c .if1 .taken)))
+    (λ c κs. search needs) (λ c κs. search needs)
+    (λ c. simp (c .fits2 .ensures, c .before .decrement-in .ensures, byte-at, lt-ltb _ _ (c .before .before .if1 .left))))

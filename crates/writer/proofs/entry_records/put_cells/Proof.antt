@@ -76,7 +76,8 @@ put-cells-spec =
     let inner = c .before .before .before .before .loop4 in
     let outer = c .before .before .before .before .before .before in
     let owners = outer .before .before in
-    omega (arith, inner .inv .put .small, outer .loop3 .inv .put .small, owners .loop .inv .1 .within, owners .loop .inv .1 .put .small, owners .before .pre))
+    let directories = owners .loop .inv .1 in
+    omega (arith, inner .inv .put .small, outer .loop3 .inv .put .small, directories .within, directories .put .small, owners .before .pre))
     (λ c. search needs) (λ c. omega arith)
     (λ c. one-more (c .before .before .before .before .before .loop4 .inv) (omega arith) (c .put-remote .ensures))
     (λ c. search needs) (λ c. omega arith)

@@ -7,20 +7,16 @@ use borrow.Author.Needs.{needs}
 use Rattle.writer.proofs.heap_records.put_object.Statement.{statement}
 use Rattle.writer.proofs.heap_records.put_object.Tie as tie
 
-returns : tie.Need-returns
-returns c = rw (not-true (c .before .args .t4 .live) (c .if1 .taken)) (put-none _ _ _)
-
-returns-2 : tie.Need-returns-2
+pub put-object-spec : {M : Type 1} → statement M
 unfolding bytesOfAll
-returns-2 c =
+put-object-spec =
+    tie.close (tie.spec
+    (λ c. rw (not-true (c .before .args .t4 .live) (c .if1 .taken)) (put-none _ _ _))
+    (λ c κs. search needs) (λ c κs. search needs) (λ c. search needs) (λ c. search needs) (λ c. search needs)
+    (λ c. search needs) (λ c κs. search needs)
+    (λ c.
     let number = c .before .before .before .before .before .before in
     let head = number .before .before in
     let branch = head .before .before in
     let all = stored-both (stored-both (head .store-head .ensures) (number .store-byte .ensures)) (c .store-four .ensures) in
-    rw (not-false (branch .before .args .t4 .live) (branch .if1 .left)) (record { stored = all; small = omega (arith, all .place) })
-
-pub put-object-spec : {M : Type 1} → statement M
-put-object-spec =
-    tie.close (tie.spec
-    returns (λ c κs. search needs) (λ c κs. search needs) (λ c. search needs) (λ c. search needs) (λ c. search needs)
-    (λ c. search needs) (λ c κs. search needs) returns-2)
+    rw (not-false (branch .before .args .t4 .live) (branch .if1 .left)) (record { stored = all; small = omega (arith, all .place) })))

@@ -20,7 +20,8 @@ returns-2 c =
       room = refl;
       small = omega arith;
       size = refl;
-      front = rw (byte (c .before .before .args .o) (omega arith), byte (x .f0) (omega arith), byte (x .f1) (omega arith), byte (x .f2) (omega arith), byte (x .f3) (omega arith));
+      front = rw (byte (c .before .before .args .o) (omega arith), byte (x .f0) (omega arith), byte (x .f1) (omega arith))
+          (rw (byte (x .f2) (omega arith), byte (x .f3) (omega arith)));
     })
 
 pub object-record-spec : {M : Type 1} → statement M

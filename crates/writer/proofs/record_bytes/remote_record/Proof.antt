@@ -32,7 +32,8 @@ returns c =
       front = rw (c .byte-33 .ensures, d2 .byte-23 .ensures, d1 .byte-13 .ensures, d0 .byte-03 .ensures)
           (rw (c3 .byte-32 .ensures, c2 .byte-22 .ensures, c1 .byte-12 .ensures, c0 .byte-02 .ensures)
           (rw (b3 .byte-3 .ensures, b2 .byte-2 .ensures, b1 .byte-1 .ensures, b0 .byte-0 .ensures, told .bits-of .ensures)
-          (rw (present .one-if .ensures, byte (x .p) (omega arith), byte (x .o) (omega arith), byte (x .e .parent) (omega (arith, present .before .good .1 .1 .0 .1 .1 .1 .0)), byte (one (x .e .presence)) (omega arith)))));
+          (rw (present .one-if .ensures, byte (x .p) (omega arith), byte (x .o) (omega arith), byte (one (x .e .presence)) (omega arith))
+          (rw (byte (x .e .parent) (omega (arith, present .before .good .1 .1 .0 .1 .1 .1 .0)))))));
     }
 
 pub remote-record-spec : {M : Type 1} → statement M

@@ -14,8 +14,9 @@ returns c =
       room = refl;
       small = omega arith;
       size = refl;
-      front = rw (byte (c .args .p) (omega arith), byte (x .r0) (omega arith), byte (x .r1) (omega arith), byte (x .r2) (omega arith), byte (x .r3) (omega arith))
-          (rw (byte (x .r4) (omega arith), byte (x .r5) (omega arith), byte (x .r6) (omega arith), byte (x .r7) (omega arith)));
+      front = rw (byte (c .args .p) (omega arith), byte (x .r0) (omega arith), byte (x .r1) (omega arith))
+          (rw (byte (x .r2) (omega arith), byte (x .r3) (omega arith), byte (x .r4) (omega arith))
+          (rw (byte (x .r5) (omega arith), byte (x .r6) (omega arith), byte (x .r7) (omega arith))));
     }
 
 pub roots-record-spec : {M : Type 1} → statement M

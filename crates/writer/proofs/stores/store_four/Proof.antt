@@ -12,7 +12,8 @@ returns c =
     let x = c .args in
     record {
       place = refl;
-      stands = rw (byte (x .a) (omega arith), byte (x .b) (omega arith), byte (x .c) (omega arith), byte (x .d) (omega arith), add-one (x .at), add-two (x .at), add-three (x .at));
+      stands = rw (byte (x .a) (omega arith), byte (x .b) (omega arith), byte (x .c) (omega arith), byte (x .d) (omega arith))
+          (rw (add-one (x .at), add-two (x .at), add-three (x .at)));
     }
 
 pub store-four-spec : {M : Type 1} → statement M

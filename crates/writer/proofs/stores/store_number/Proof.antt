@@ -14,7 +14,8 @@ returns c =
     let b0 = b1 .before in
     let x = b0 .before .args .x in
     let bytes = rw (b0 .byte-0 .ensures, b1 .byte-1 .ensures, b2 .byte-2 .ensures, b3 .byte-3 .ensures) at (c .store-four .ensures) in
-    rw (byte (x % 256) (omega arith), byte (x / 256 % 256) (omega arith), byte (x / 256 / 256 % 256) (omega arith), byte (x / 256 / 256 / 256 % 256) (omega arith)) at bytes
+    let low = rw (byte (x % 256) (omega arith), byte (x / 256 % 256) (omega arith)) at bytes in
+    rw (byte (x / 256 / 256 % 256) (omega arith), byte (x / 256 / 256 / 256 % 256) (omega arith)) at low
 
 pub store-number-spec : {M : Type 1} → statement M
 store-number-spec =
