@@ -1,7 +1,7 @@
 -- What a record's numbers mean: whether the shape allows them, and the table with them in it (document 01, "Saved image", the payloads and
 -- 24 VALUE). Definitions only; assumes nothing.
 use mathlib.Core.Bool.{Bool, true, false}
-use mathlib.Core.List.{List, []}
+use mathlib.Core.List.{List}
 use Prim.Native.Nat.{ℕ}
 use lib.Dec.{ltb, leb, eqb}
 use lib.ListN.{getD, set, take, drop}

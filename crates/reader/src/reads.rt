@@ -9,8 +9,6 @@ use crate::frames::HEAD;
 use crate::fronts::front_of;
 use crate::numbers::number_at;
 use heap::Heap;
-use heap::Object;
-use heap::Roots;
 use image::Loaded;
 use image::RecordKind;
 use image::Turn;
