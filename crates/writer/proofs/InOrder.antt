@@ -14,6 +14,7 @@ use Rattle.image.specs.Stored.{Stored, Put, Made, heapRecords, cellsRecords, ai
 use Rattle.image.specs.Stored.{COUNT-BYTES, HEAP-BYTES, CELLS-BYTES, AIR-BYTES, END-BYTES, FULL}
 use Rattle.image.specs.StoredLaws.{stored-length, put-both}
 use Rattle.image.specs.Writer.{bytesOfAll, recordsOf, image}
+use Rattle.writer.proofs.Behind.{whole as all-of}
 
 module _ (t : Table) where
   abbrev count-record : List Record
@@ -35,11 +36,11 @@ module _ (t : Table) where
       (end : Stored m₄ d (recordBytes (row End [])) made n) where
     first : Put COUNT-BYTES count-record empty 0 m₁ a
     unfolding bytesOfAll
-    first = record { stored = count; small = omega (arith, count .place) }
+    first = all-of count (omega arith)
 
     last : Put END-BYTES end-record m₄ d made n
     unfolding bytesOfAll
-    last = record { stored = end; small = omega (arith, end .place) }
+    last = all-of end (omega arith)
 
     whole : Put FULL (recordsOf t) empty 0 made n
     whole = rw (sym in-order) (put-both (put-both (put-both (put-both first heap) cells) air) last)

@@ -1,3 +1,4 @@
+pub mod Behind
 pub mod Bits
 pub mod InOrder
 pub mod OneByte

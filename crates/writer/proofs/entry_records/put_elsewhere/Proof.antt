@@ -1,8 +1,8 @@
 -- `writer::entry_records::put_elsewhere` puts the record of an entry that isn't the owner's. Assumes nothing.
 use native.Mathlib.Omega.{arith}
-use Rattle.image.specs.StoredLaws.{stored-both}
 use Rattle.image.specs.Writer.{bytesOfAll}
 use borrow.Author.Needs.{needs}
+use Rattle.writer.proofs.Behind.{_then_, whole}
 use Rattle.writer.proofs.entry_records.put_elsewhere.Statement.{statement}
 use Rattle.writer.proofs.entry_records.put_elsewhere.Tie as tie
 
@@ -17,11 +17,10 @@ returns c =
     let node = object .before .before in
     let head = node .before .before in
     let told = head .before .before .before .before in
-    let keys = stored-both (stored-both (head .store-head .ensures) (node .store-byte .ensures)) (object .store-byte2 .ensures) in
-    let front = stored-both (stored-both keys (count .store-number .ensures)) (parent .store-byte3 .ensures) in
-    let middle = stored-both front (rw (told .one-if .ensures) at (present .store-byte4 .ensures)) in
-    let all = stored-both (stored-both middle (returned .store-returns .ensures)) (c .store-number2 .ensures) in
-    record { stored = all; small = omega (arith, all .place) }
+    let keys = head .store-head .ensures then node .store-byte .ensures then object .store-byte2 .ensures in
+    let one = rw (told .one-if .ensures) at (present .store-byte4 .ensures) in
+    let tail = returned .store-returns .ensures then c .store-number2 .ensures in
+    whole (keys then count .store-number .ensures then parent .store-byte3 .ensures then one then tail) (omega arith)
 
 pub put-elsewhere-spec : {M : Type 1} → statement M
 put-elsewhere-spec =

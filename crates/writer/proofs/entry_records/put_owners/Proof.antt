@@ -1,8 +1,8 @@
 -- `writer::entry_records::put_owners` puts the record of a directory. Assumes nothing.
 use native.Mathlib.Omega.{arith}
-use Rattle.image.specs.StoredLaws.{stored-both}
 use Rattle.image.specs.Writer.{bytesOfAll}
 use borrow.Author.Needs.{needs}
+use Rattle.writer.proofs.Behind.{_then_, whole}
 use Rattle.writer.proofs.entry_records.put_owners.Statement.{statement}
 use Rattle.writer.proofs.entry_records.put_owners.Tie as tie
 
@@ -12,9 +12,7 @@ returns c =
     let count = c .before .before in
     let object = count .before .before in
     let head = object .before .before in
-    let front = stored-both (head .store-head .ensures) (object .store-byte .ensures) in
-    let all = stored-both (stored-both front (count .store-number .ensures)) (c .store-returns .ensures) in
-    record { stored = all; small = omega (arith, all .place) }
+    whole (head .store-head .ensures then object .store-byte .ensures then count .store-number .ensures then c .store-returns .ensures) (omega arith)
 
 pub put-owners-spec : {M : Type 1} → statement M
 put-owners-spec =

@@ -1,9 +1,10 @@
 -- `writer::heap_records::put_object` puts the record of an object, if it is live. Assumes nothing.
 use native.Mathlib.Omega.{arith}
 use borrow.Author.Tests.{not-true, not-false}
-use Rattle.image.specs.StoredLaws.{stored-both, put-none}
+use Rattle.image.specs.StoredLaws.{put-none}
 use Rattle.image.specs.Writer.{bytesOfAll}
 use borrow.Author.Needs.{needs}
+use Rattle.writer.proofs.Behind.{_then_, whole}
 use Rattle.writer.proofs.heap_records.put_object.Statement.{statement}
 use Rattle.writer.proofs.heap_records.put_object.Tie as tie
 
@@ -18,5 +19,5 @@ put-object-spec =
     let number = c .before .before .before .before .before .before in
     let head = number .before .before in
     let branch = head .before .before in
-    let all = stored-both (stored-both (head .store-head .ensures) (number .store-byte .ensures)) (c .store-four .ensures) in
-    rw (not-false (branch .before .args .t4 .live) (branch .if1 .left)) (record { stored = all; small = omega (arith, all .place) })))
+    rw (not-false (branch .before .args .t4 .live) (branch .if1 .left))
+    (whole (head .store-head .ensures then number .store-byte .ensures then c .store-four .ensures) (omega arith))))

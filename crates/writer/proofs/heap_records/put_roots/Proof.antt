@@ -1,8 +1,8 @@
 -- `writer::heap_records::put_roots` puts the record of a node's roots. Assumes nothing.
 use native.Mathlib.Omega.{arith}
-use Rattle.image.specs.StoredLaws.{stored-both}
 use Rattle.image.specs.Writer.{bytesOfAll}
 use borrow.Author.Needs.{needs}
+use Rattle.writer.proofs.Behind.{_then_, whole}
 use Rattle.writer.proofs.heap_records.put_roots.Statement.{statement}
 use Rattle.writer.proofs.heap_records.put_roots.Tie as tie
 
@@ -12,9 +12,7 @@ returns c =
     let low = c .before .before .before .before .before .before in
     let number = low .before .before .before .before .before .before in
     let head = number .before .before in
-    let front = stored-both (stored-both (head .store-head .ensures) (number .store-byte .ensures)) (low .store-four .ensures) in
-    let all = stored-both front (c .store-four2 .ensures) in
-    record { stored = all; small = omega (arith, all .place) }
+    whole (head .store-head .ensures then number .store-byte .ensures then low .store-four .ensures then c .store-four2 .ensures) (omega arith)
 
 pub put-roots-spec : {M : Type 1} → statement M
 put-roots-spec =
