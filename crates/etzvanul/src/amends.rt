@@ -9,7 +9,7 @@ use crate::sweep_puts::put_sweep;
 use crate::sweep_puts::swept_length;
 use crate::sweeps::sweep;
 use image::Written;
-use image::look_from;
+use reader::look_from;
 use step::Event;
 use step::Outcome;
 use table::Table;

@@ -3,7 +3,7 @@ use heap::Heap;
 use heap::Object;
 use heap::Roots;
 use image::Found;
-use image::look_from;
+use reader::look_from;
 ghost use mathlib.Core.Path.{_≡_};
 ghost use Prim.Native.Nat.{_<_};
 ghost use lib.ListN.{getD};

@@ -19,7 +19,7 @@ use entry::Weight;
 use heap::Heap;
 use image::Found;
 use image::Held;
-use image::look_from;
+use reader::look_from;
 use step::Deed;
 use step::Outcome;
 use step::last_words;

@@ -3,7 +3,7 @@ use crate::Change;
 use crate::Cursor;
 use crate::Plan;
 use image::Held;
-use image::record_of;
+use writer::record_of;
 ghost use mathlib.Core.Path.{_≡_};
 ghost use mathlib.Core.List.{[], _∷_};
 ghost use Prim.Native.Nat.{_+_, _≤_};

@@ -7,7 +7,7 @@ use crate::lookups::roots_place;
 use heap::Heap;
 use heap::Marks;
 use image::Found;
-use image::look_from;
+use reader::look_from;
 use step::Outcome;
 use step::is_whole;
 use step::reclaimed;

@@ -88,7 +88,9 @@ module _ {t : Table} where
       held : (q a : ℕ) → q < NODES → a < OBJECTS → entryIn (getD (set cs o new) a noCell) q ≡ shownOf (shown′ q a) (entryAt t q a)
       held q a lq la = elim (ℕ-discrete a o) [
         | yes ea ↦ rw (ea, there) (elim (ℕ-discrete q p) [
-          | yes eq ↦ rw eq (ap (λ (s : Slot). s .held) (getD-set-same (getD cs o noCell .at) p (record { held = e }) noSlot (omega (arith, c .sizes o lo))) ∙ is)
+          | yes eq ↦
+              let same = getD-set-same (getD cs o noCell .at) p (record { held = e }) noSlot (omega (arith, c .sizes o lo)) in
+              rw eq (ap (λ (s : Slot). s .held) same ∙ is)
           | no nq ↦
               ap (λ (s : Slot). s .held) (getD-set-other (getD cs o noCell .at) p q (record { held = e }) noSlot nq)
               ∙ c .entries q o lq lo ∙ other q o lq lo (λ _ eq. nq eq)
@@ -97,7 +99,8 @@ module _ {t : Table} where
       ]
 
   -- where all are shown, they are the table's cells
-  pub cells-all : {shown : ℕ → ℕ → Bool} {cs : List Cell} → Formed t → ((p o : ℕ) → p < NODES → o < OBJECTS → shownOf (shown p o) (entryAt t p o) ≡ entryAt t p o)
+  pub cells-all : {shown : ℕ → ℕ → Bool} {cs : List Cell} → Formed t
+      → ((p o : ℕ) → p < NODES → o < OBJECTS → shownOf (shown p o) (entryAt t p o) ≡ entryAt t p o)
       → Cells t shown cs → cs ≡ t .cells
   cells-all {shown} {cs} formed all c = ext-getD noCell cs (t .cells) (c .size ∙ sym (formed .cells)) one
     where

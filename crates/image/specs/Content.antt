@@ -1,7 +1,7 @@
 -- What a record's numbers mean: whether the shape allows them, and the table with them in it (document 01, "Saved image", the payloads and
 -- 24 VALUE). Definitions only; assumes nothing.
 use mathlib.Core.Bool.{Bool, true, false}
-use mathlib.Core.List.{List, []}
+use mathlib.Core.List.{List}
 use Prim.Native.Nat.{ℕ}
 use lib.Dec.{ltb, leb, eqb}
 use lib.ListN.{getD, set, take, drop}
@@ -21,7 +21,8 @@ use Rattle.table.specs.declared.Table.{Table}
 use Rattle.table.specs.Shape.{fitsCount, fitsMessage}
 use Rattle.table.specs.Table.{withCount, withEntry, withHeap, withMessage}
 use Rattle.image.specs.declared.RecordKind.{RecordKind}
-use Rattle.image.specs.declared.RecordKind.the-variants.{Count, Live, NodeRoots, Directory, Remote as RemoteEntry, Reference, Decrement, End, Unknown}
+use Rattle.image.specs.declared.RecordKind.the-variants.{Count, Live, NodeRoots, Directory, Reference, Decrement, End, Unknown}
+use Rattle.image.specs.declared.RecordKind.the-variants.{Remote as RemoteEntry}
 use Rattle.terms.specs.Bytes.{signed}
 
 -- the number at a position of the payload

@@ -19,6 +19,7 @@ pub mod Sofar
 pub mod SpotOrder
 pub mod Spots
 pub mod Stages
+pub mod Stays
 pub mod Stored
 pub mod StoredLaws
 pub mod Unique

@@ -89,11 +89,14 @@ module _ (t : Table) (shape : Shaped t) where
   directories-size : size (gather OBJECTS (λ o. directoryRecord o (entryAt t (owner o) o))) ≤ 832
   unfolding sumFrom
   directories-size =
-      size-gather (λ o. 0) (λ o. 13) (λ o. directoryRecord o (entryAt t (owner o) o)) 0 OBJECTS (λ o lt. (omega arith, directory-size o (entryAt t (owner o) o))) .1
+      size-gather (λ o. 0) (λ o. 13) (λ o. directoryRecord o (entryAt t (owner o) o)) 0 OBJECTS
+      (λ o lt. (omega arith, directory-size o (entryAt t (owner o) o))) .1
 
   remotes-size : size (gather NODES (λ p. gather OBJECTS (λ o. remoteRecord p o (entryAt t p o)))) ≤ 8960
   unfolding sumFrom
-  remotes-size = size-gather (λ p. 0) (λ p. 1120) (λ p. gather OBJECTS (λ o. remoteRecord p o (entryAt t p o))) 0 NODES (λ p lp. (omega arith, node p (omega arith))) .1
+  remotes-size =
+      size-gather (λ p. 0) (λ p. 1120) (λ p. gather OBJECTS (λ o. remoteRecord p o (entryAt t p o))) 0 NODES
+      (λ p lp. (omega arith, node p (omega arith))) .1
     where
       node : (p : ℕ) → p < NODES → size (gather OBJECTS (λ o. remoteRecord p o (entryAt t p o))) ≤ 1120
       node p lp =
@@ -103,7 +106,9 @@ module _ (t : Table) (shape : Shaped t) where
 
   messages-size : size (gather PLACES (λ s. messageRecord s (messageAt t s))) ≤ 1024
   unfolding sumFrom
-  messages-size = size-gather (λ s. 0) (λ s. 16) (λ s. messageRecord s (messageAt t s)) 0 PLACES (λ s lt. (omega arith, message-size s (messageAt t s))) .1
+  messages-size =
+      size-gather (λ s. 0) (λ s. 16) (λ s. messageRecord s (messageAt t s)) 0 PLACES
+      (λ s lt. (omega arith, message-size s (messageAt t s))) .1
 
   count-size : size (row Count (t .count ∷ []) ∷ []) ≡ 8
   unfolding bytesOfAll
@@ -121,7 +126,8 @@ module _ (t : Table) (shape : Shaped t) where
       (gather PLACES (λ s. messageRecord s (messageAt t s))) (row End [] ∷ [])
       count-size objects-size roots-size directories-size remotes-size messages-size end-size
     where
-      whole : (a b c d e f g : List Record) → size a ≡ 8 → size b ≤ 576 → (104 ≤ size c) × (size c ≤ 104) → size d ≤ 832 → size e ≤ 8960 → size f ≤ 1024 → size g ≡ 4
+      whole : (a b c d e f g : List Record) → size a ≡ 8 → size b ≤ 576 → (104 ≤ size c) × (size c ≤ 104)
+          → size d ≤ 832 → size e ≤ 8960 → size f ≤ 1024 → size g ≡ 4
           → (116 ≤ size (a ++ b ++ c ++ d ++ e ++ f ++ g)) × (size (a ++ b ++ c ++ d ++ e ++ f ++ g) ≤ 11508)
       whole a b c d e f g ha hb hc hd he hf hg =
           let g1 = size-append (a ++ b ++ c ++ d ++ e ++ f) g in

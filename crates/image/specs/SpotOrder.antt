@@ -5,7 +5,6 @@ use mathlib.Core.List.{List}
 use Prim.Native.Nat.{ℕ, zero, suc, _+_, _*_, _/_, _%_, _<_}
 use native.Mathlib.Omega.{arith}
 use Rattle.terms.specs.Counted.{one}
-use Rattle.table.specs.declared.Message.the-variants as m
 use Rattle.image.specs.declared.RecordKind.{RecordKind}
 use Rattle.image.specs.declared.RecordKind.the-variants.{Count, Live, NodeRoots, Directory, Remote, Reference, Decrement, End, Unknown}
 use Rattle.image.specs.Content.{number}

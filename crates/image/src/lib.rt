@@ -1,45 +1,9 @@
-// The saved image of a table. The types that the reader hands back, and the writer; what is read and written stands in specs/.
-mod checks; // checks.rt: an image checked where it lies
-mod contents; // contents.rt: what the records hold that are read
-mod entry_records; // entry_records.rt: the records of directories and of other entries
-mod finds; // finds.rt: what stands at a position of the image order
-mod frames; // frames.rt: the frame of a record that is read
-mod fronts; // fronts.rt: the record at the front of the bytes that are read
-mod heap_records; // heap_records.rt: the records of live objects and of roots
-mod message_records; // message_records.rt: the records of the messages in the air
-mod numbers; // numbers.rt: numbers in bytes
-mod orders; // orders.rt: the order of the records that are read
-mod record_bytes; // record_bytes.rt: the bytes of one record by itself
-mod stores; // stores.rt: bytes stored one behind the other
+// The saved image of a table: the types that its definitions, in specs/, and its reader and writer, two crates above this one, speak of.
 mod told; // told.rt: what a record tells, taken apart
-mod whole; // whole.rt: the whole image, section by section
 
-pub use checks::check;
-use contents::decrement_in;
-use contents::object_in;
-use contents::reference_in;
-use contents::roots_in;
-use contents::with_directory;
-use contents::with_remote;
 use entry::Entry;
-pub use finds::look_from;
-use frames::HEAD;
-use fronts::front_of;
-use heap::Heap;
-use heap::Object;
-use heap::Roots;
-use numbers::number_at;
-pub use record_bytes::record_of;
-use stores::FULL;
-use stores::copy;
 use table::Message;
 use table::Table;
-use whole::make;
-ghost use mathlib.Core.Path.{_≡_};
-ghost use Prim.Native.Nat.{_≤_};
-ghost use Rattle.image.specs.Reader.{read};
-ghost use Rattle.image.specs.Stored.{FULL as ROOM-FOR-ALL};
-ghost use Rattle.image.specs.Writer.{putAnswer, putLength, putBytes, writeAnswer, writeLength, writeBytes};
 
 // The answer is 0 or the refusal's number; refused, the table is the fresh one.
 pub struct Loaded {
@@ -142,15 +106,6 @@ pub struct Front {
 
 impl Loaded {
     pub const ACCEPTED: u8 = 0;
-
-    fn of(answer: u8, table: Table) -> Loaded
-        ensures { λ r. ⌜ r ≡ record { answer = answer; table = table } ⌝ }
-    {
-        Loaded {
-            answer: answer,
-            table: table,
-        }
-    }
 }
 
 impl Written {
@@ -159,82 +114,4 @@ impl Written {
     pub const SHAPE: u8 = 1;
 
     pub const ROOM: u8 = 26;
-}
-
-// The image of any table at the front of out; with too little room out is as it was. Whoever knows that the table has the shape calls this, and
-// saves the test. The image is made in a buffer of its own, so that one pass over the table is enough.
-pub fn put_image(t: Table, out: &mut [u8]) -> Written
-    ensures answer { λ r. ⌜ r .answer ≡ putAnswer t (now (out .entry)) ⌝ }
-    ensures length { λ r. ⌜ r .length ≡ putLength t (now (out .entry)) ⌝ }
-    ensures bytes { λ r. ⌜ now (out .exit) ≡ putBytes t (now (out .entry)) ⌝ }
-    ensures small { λ r. ⌜ r .length ≤ ROOM-FOR-ALL ⌝ }
-{
-    let mut made = [0u8; FULL];
-    let length = make(&mut made, t);
-    if out.len() < length {
-        return Written {
-            answer: Written::ROOM,
-            length: 0,
-        };
-    }
-    copy(out, &made[..length]);
-    Written {
-        answer: Written::ACCEPTED,
-        length: length,
-    }
-}
-
-// The image of the table at the front of out. For a table that breaks the shape, or with too little room, out is as it was.
-pub fn write(t: Table, out: &mut [u8]) -> Written
-    ensures answer { λ r. ⌜ r .answer ≡ writeAnswer t (now (out .entry)) ⌝ }
-    ensures length { λ r. ⌜ r .length ≡ writeLength t (now (out .entry)) ⌝ }
-    ensures bytes { λ r. ⌜ now (out .exit) ≡ writeBytes t (now (out .entry)) ⌝ }
-{
-    if !t.fits() {
-        return Written {
-            answer: Written::SHAPE,
-            length: 0,
-        };
-    }
-    put_image(t, out)
-}
-
-// The table whose image the bytes are, or the first refusal. Each record goes into a table of this function's own, since a call would copy
-// it; the heap is filled beside it. A refusal starts over, so that the fresh state is made in one place only and handed back.
-pub fn read(bytes: &[u8]) -> Loaded
-    ensures { λ r. ⌜ r ≡ read (now (bytes .entry)) ⌝ }
-{
-    let mut refusal = Loaded::ACCEPTED;
-    loop {
-        let mut table = Table::fresh();
-        if refusal != Loaded::ACCEPTED {
-            return Loaded::of(refusal, table);
-        }
-        let mut heap = Heap::fresh();
-        let mut turn = Turn { first: 0, last: 0 };
-        let mut at: usize = 0;
-        loop {
-            let rest = &bytes[at..];
-            let front = front_of(turn, rest);
-            let kind = front.kind;
-            let key = front.key;
-            refusal = front.answer;
-            turn = front.next;
-            at += front.length;
-            match kind {
-                RecordKind::Count => table.count = number_at(rest, HEAD),
-                RecordKind::Live => heap.objects[key] = object_in(rest),
-                RecordKind::NodeRoots => heap.roots[key] = roots_in(rest),
-                RecordKind::Directory => table.cells[key] = with_directory(table.cells[key], rest),
-                RecordKind::Remote => table.cells[key] = with_remote(table.cells[key], rest),
-                RecordKind::Reference => table.air[key] = reference_in(rest),
-                RecordKind::Decrement => table.air[key] = decrement_in(rest),
-                RecordKind::End => {
-                    table.heap = heap;
-                    return Loaded::of(Loaded::ACCEPTED, table);
-                }
-                RecordKind::Unknown => break,
-            }
-        }
-    }
 }

@@ -4,110 +4,21 @@ use borrow.Author.Needs.{needs}
 use Rattle.image.proofs.Held.size.Statement.{statement}
 use Rattle.image.proofs.Held.size.Tie as tie
 
-enum-told : tie.Need-enum-told
-enum-told c = search needs
-
-enum-known-self : tie.Need-enum-known-self
-enum-known-self c = search needs
-
-enum-known-self-2 : tie.Need-enum-known-self-2
-enum-known-self-2 c = search needs
-
-returns : tie.Need-returns
-unfolding sizeOf
-returns c = simp (c .before .before .self2 .given .1, c .if1 .taken)
-
-enum-known-self-3 : tie.Need-enum-known-self-3
-enum-known-self-3 c = search needs
-
-enum-known-self-4 : tie.Need-enum-known-self-4
-enum-known-self-4 c = search needs
-
-enum-told-2 : tie.Need-enum-told-2
-enum-told-2 c = search needs
-
-enum-known-e : tie.Need-enum-known-e
-enum-known-e c = search needs
-
-enum-known-e-2 : tie.Need-enum-known-e-2
-enum-known-e-2 c = search needs
-
-enum-known-self-5 : tie.Need-enum-known-self-5
-enum-known-self-5 c = search needs
-
-enum-told-3 : tie.Need-enum-told-3
-enum-told-3 c = search needs
-
-enum-known-m : tie.Need-enum-known-m
-enum-known-m c = search needs
-
-enum-known-m-2 : tie.Need-enum-known-m-2
-enum-known-m-2 c = search needs
-
-returns-2 : tie.Need-returns-2
-unfolding sizeOf
-returns-2 c = rw (c .enum-told .given .1)
-
-returns-3 : tie.Need-returns-3
-unfolding sizeOf
-returns-3 c = rw (c .before .self .given .1)
-
-returns-4 : tie.Need-returns-4
-unfolding sizeOf
-returns-4 c = simp (c .before .before .self2 .given .1, c .if1 .left)
-
-returns-5 : tie.Need-returns-5
-unfolding sizeOf
-returns-5 c = rw (c .before .self3 .given .1)
-
-returns-6 : tie.Need-returns-6
-unfolding sizeOf
-returns-6 c = rw (c .before .before .before .self4 .given .1, c .enum-told2 .given .1)
-
-returns-7 : tie.Need-returns-7
-unfolding sizeOf
-returns-7 c = rw (c .before .before .before .before .self4 .given .1, c .before .e .given .1)
-
-returns-8 : tie.Need-returns-8
-unfolding sizeOf
-returns-8 c = rw (c .before .before .before .before .self4 .given .1, c .before .e2 .given .1)
-
-returns-9 : tie.Need-returns-9
-unfolding sizeOf
-returns-9 c = rw (c .before .before .before .self5 .given .1, c .enum-told3 .given .1)
-
-returns-10 : tie.Need-returns-10
-unfolding sizeOf
-returns-10 c = rw (c .before .before .before .before .self5 .given .1, c .before .m .given .1)
-
-returns-11 : tie.Need-returns-11
-unfolding sizeOf
-returns-11 c = rw (c .before .before .before .before .self5 .given .1, c .before .m2 .given .1)
-
 pub size-spec : {M : Type 1} → statement M
+unfolding sizeOf
 size-spec =
-    tie.close
-    (tie.spec
-    enum-told
-    enum-known-self
-    enum-known-self-2
-    returns
-    enum-known-self-3
-    enum-known-self-4
-    enum-told-2
-    enum-known-e
-    enum-known-e-2
-    enum-known-self-5
-    enum-told-3
-    enum-known-m
-    enum-known-m-2
-    returns-2
-    returns-3
-    returns-4
-    returns-5
-    returns-6
-    returns-7
-    returns-8
-    returns-9
-    returns-10
-    returns-11)
+    tie.close (tie.spec
+    (λ c. search needs) (λ c. search needs) (λ c. search needs)
+    (λ c. simp (c .before .before .self2 .given .1, c .if1 .taken))
+    (λ c. search needs) (λ c. search needs) (λ c. search needs) (λ c. search needs) (λ c. search needs)
+    (λ c. search needs) (λ c. search needs) (λ c. search needs) (λ c. search needs)
+    (λ c. rw (c .enum-told .given .1))
+    (λ c. rw (c .before .self .given .1))
+    (λ c. simp (c .before .before .self2 .given .1, c .if1 .left))
+    (λ c. rw (c .before .self3 .given .1))
+    (λ c. rw (c .before .before .before .self4 .given .1, c .enum-told2 .given .1))
+    (λ c. rw (c .before .before .before .before .self4 .given .1, c .before .e .given .1))
+    (λ c. rw (c .before .before .before .before .self4 .given .1, c .before .e2 .given .1))
+    (λ c. rw (c .before .before .before .self5 .given .1, c .enum-told3 .given .1))
+    (λ c. rw (c .before .before .before .before .self5 .given .1, c .before .m .given .1))
+    (λ c. rw (c .before .before .before .before .self5 .given .1, c .before .m2 .given .1)))

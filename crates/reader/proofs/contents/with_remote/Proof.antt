@@ -1,0 +1,12 @@
+-- `reader::contents::with_remote` puts the entry into the cell. Assumes nothing.
+use Rattle.reader.proofs.Places.{byte-at}
+use borrow.Author.Needs.{needs}
+use Rattle.reader.proofs.contents.with_remote.Statement.{statement}
+use Rattle.reader.proofs.contents.with_remote.Tie as tie
+
+returns : tie.Need-returns
+returns c = simp (c .with-entry .ensures, c .before .before .remote-in .ensures, byte-at)
+
+pub with-remote-spec : {M : Type 1} → statement M
+with-remote-spec =
+    tie.close (tie.spec (λ c κs. search needs) (λ c. search needs) (λ c κs. search needs) returns)

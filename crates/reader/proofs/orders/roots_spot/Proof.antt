@@ -1,0 +1,19 @@
+-- `reader::orders::roots_spot` goes by the last node. Assumes nothing.
+use Prim.Native.Nat.{_+_}
+use native.Mathlib.Omega.{arith}
+use borrow.Author.Tests.{lt-ltb, le-ltb}
+use borrow.Author.Needs.{needs}
+use Rattle.reader.proofs.orders.roots_spot.Statement.{statement}
+use Rattle.reader.proofs.orders.roots_spot.Tie as tie
+
+pub roots-spot-spec : {M : Type 1} → statement M
+roots-spot-spec =
+    tie.close (tie.spec
+    (λ c κs. search needs) (λ c. search needs) (λ c. search needs) (λ c. search needs) (λ c κs. search needs)
+    (λ c.
+    let p = c .before .before .before .args .p in
+    simp (c .before2 .ensures, c .before .before .wide .ensures, lt-ltb (p + 1) 8 (omega arith)))
+    (λ c κs. search needs)
+    (λ c.
+    let p = c .before .before .before .args .p in
+    simp (c .before3 .ensures, c .before .before .wide .ensures, le-ltb (p + 1) 8 (omega arith))))

@@ -1,0 +1,5 @@
+pub mod Behind
+pub mod Bits
+pub mod InOrder
+pub mod OneByte
+pub mod Turns
