@@ -21,7 +21,7 @@ use Rattle.run.specs.declared.Progress.{Progress}
 use Rattle.run.specs.declared.Ran.{Ran}
 use Rattle.run.specs.Buffer.{Wrote}
 use Rattle.run.specs.Next.{next}
-use Rattle.run.specs.Ran.{LINE, told}
+use Rattle.run.specs.Ran.{LINE, Ended, told}
 use Rattle.run.specs.Run.{RECORDS, after, beginning, ending, endFrom, endOf, line, runEnd, runFrom, runText, summary, textOf}
 use Rattle.run.proofs.Counting.{sent-most, saved-most}
 use Rattle.run.proofs.Next as front-type
@@ -122,7 +122,7 @@ module _ {input out₀ out : List ℕ} {p : Progress} {from at : ℕ} (a : Ahead
       q
 
   module _ {front : Next} (n : front ≡ next (drop from input)) {end : List ℕ} (r : Ran)
-      (f : (r .answer ≡ ACCEPTED) × (r .summary ≡ summary p) × Wrote out at (ending (summary p) front) end (r .length)) where
+      (f : Ended p front out at end r) where
     closes : runFrom (RECORDS - p .records) p (drop from input) ≡ ending (summary p) front → endFrom (RECORDS - p .records) p (drop from input) ≡ p
         → (r ≡ told input) × Wrote out₀ 0 (runText input) end (r .length)
     closes t e =

@@ -5,15 +5,6 @@ use borrow.Author.Needs.{needs}
 use Rattle.run.proofs.Progress.after.Statement.{statement}
 use Rattle.run.proofs.Progress.after.Tie as tie
 
-decrements-sent-requires : tie.Need-decrements-sent-requires
-decrements-sent-requires c κs = search needs
-
-decrements-saved-requires : tie.Need-decrements-saved-requires
-decrements-saved-requires c κs = search needs
-
-add-t7 : tie.Need-add-t7
-add-t7 c = search needs
-
 add-t8 : tie.Need-add-t8
 add-t8 c =
     let d = c .before .before .before in
@@ -32,4 +23,4 @@ returns c = let d = c .before .before .before in simp (d .decrements-saved .ensu
 pub after-spec : {M : Type 1} → statement M
 after-spec =
     tie.close
-    (tie.spec decrements-sent-requires decrements-saved-requires add-t7 add-t8 add-t9 returns)
+    (tie.spec (search needs) (search needs) (search needs) add-t8 add-t9 returns)
