@@ -23,7 +23,7 @@ use Rattle.run.specs.Buffer.{Wrote}
 use Rattle.run.specs.Next.{next}
 use Rattle.run.specs.Ran.{LINE, Ended, told}
 use Rattle.run.specs.Run.{RECORDS, after, beginning, ending, endFrom, endOf, line, runEnd, runFrom, runText, summary, textOf}
-use Rattle.run.proofs.Counting.{sent-most, saved-most}
+use Rattle.run.proofs.Counting.{one-decrement}
 use Rattle.run.proofs.Next as front-type
 use Rattle.run.proofs.Written.{wrote-both, wrote-length}
 
@@ -104,8 +104,8 @@ module _ {input out₀ out : List ℕ} {p : Progress} {from at : ℕ} (a : Ahead
         → Ahead input out₀ out′ (after p (step (p .table) e)) (from + RECORD) at′
     ahead-more w le = record {
       few = omega arith;
-      sent = omega (arith, a .sent, sent-most (step (p .table) e .deed));
-      saved = omega (arith, a .saved, saved-most (step (p .table) e .deed));
+      sent = omega (arith, a .sent, one-decrement (step (p .table) e .deed));
+      saved = omega (arith, a .saved, one-decrement (step (p .table) e .deed));
       read = omega (arith, a .read, found-whole (drop from input) e f, length-drop from input);
       short = omega (arith, a .short);
       same = wrote-length w ∙ a .same;

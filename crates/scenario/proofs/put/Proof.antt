@@ -7,27 +7,6 @@ use borrow.Author.Needs.{needs}
 use Rattle.scenario.proofs.put.Statement.{statement}
 use Rattle.scenario.proofs.put.Tie as tie
 
-slice-write-out-2 : tie.Need-slice-write-out-2
-slice-write-out-2 c = simp length-set (omega arith)
-
-slice-write-out-3 : tie.Need-slice-write-out-3
-slice-write-out-3 c = simp length-set (omega arith)
-
-slice-write-out-4 : tie.Need-slice-write-out-4
-slice-write-out-4 c = simp length-set (omega arith)
-
-slice-write-out-5 : tie.Need-slice-write-out-5
-slice-write-out-5 c = simp length-set (omega arith)
-
-slice-write-out-6 : tie.Need-slice-write-out-6
-slice-write-out-6 c = simp length-set (omega arith)
-
-slice-write-out-7 : tie.Need-slice-write-out-7
-slice-write-out-7 c = simp length-set (omega arith)
-
-slice-write-out-8 : tie.Need-slice-write-out-8
-slice-write-out-8 c = simp length-set (omega arith)
-
 returns : tie.Need-returns
 returns c =
     let bytes = record-bytes (c .args .e) (omega arith) (omega arith) (omega arith) (omega arith) (omega arith) in
@@ -39,20 +18,20 @@ put-spec =
     (tie.spec
     (search needs)
     (search needs)
-    slice-write-out-2
+    (λ c. simp length-set (omega arith))
     (search needs)
     (search needs)
-    slice-write-out-3
+    (λ c. simp length-set (omega arith))
     (search needs)
     (search needs)
-    slice-write-out-4
+    (λ c. simp length-set (omega arith))
     (search needs)
-    slice-write-out-5
+    (λ c. simp length-set (omega arith))
     (search needs)
-    slice-write-out-6
+    (λ c. simp length-set (omega arith))
     (search needs)
-    slice-write-out-7
+    (λ c. simp length-set (omega arith))
     (search needs)
-    slice-write-out-8
+    (λ c. simp length-set (omega arith))
     (search needs)
     returns)
