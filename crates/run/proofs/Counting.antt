@@ -46,32 +46,17 @@ one-most false = omega arith
 
 -- ---- what one deed adds to a run's counts
 
--- a deed sends one decrement at most
-pub sent-most : (d : Deed) → decrementsSent d ≤ 1
-sent-most Refused = omega arith
-sent-most Arranged = omega arith
-sent-most (Born o) = omega arith
-sent-most (Sent s) = omega arith
-sent-most CameHome = omega arith
-sent-most Made = omega arith
-sent-most Merged = omega arith
-sent-most (Answered s) = omega arith
-sent-most Settled = omega arith
-sent-most (Collected n) = omega arith
-sent-most (Dropped s) = omega arith
-sent-most Cleared = omega arith
-
--- and saves one at most
-pub saved-most : (d : Deed) → decrementsSaved d ≤ 1
-saved-most Refused = omega arith
-saved-most Arranged = omega arith
-saved-most (Born o) = omega arith
-saved-most (Sent s) = omega arith
-saved-most CameHome = omega arith
-saved-most Made = omega arith
-saved-most Merged = omega arith
-saved-most (Answered s) = omega arith
-saved-most Settled = omega arith
-saved-most (Collected n) = omega arith
-saved-most (Dropped s) = omega arith
-saved-most Cleared = omega arith
+-- a deed sends or saves one decrement at most
+pub one-decrement : (d : Deed) → decrementsSent d + decrementsSaved d ≤ 1
+one-decrement Refused = omega arith
+one-decrement Arranged = omega arith
+one-decrement (Born o) = omega arith
+one-decrement (Sent s) = omega arith
+one-decrement CameHome = omega arith
+one-decrement Made = omega arith
+one-decrement Merged = omega arith
+one-decrement (Answered s) = omega arith
+one-decrement Settled = omega arith
+one-decrement (Collected n) = omega arith
+one-decrement (Dropped s) = omega arith
+one-decrement Cleared = omega arith

@@ -21,9 +21,9 @@ use Rattle.run.specs.declared.Progress.{Progress}
 use Rattle.run.specs.declared.Ran.{Ran}
 use Rattle.run.specs.Buffer.{Wrote}
 use Rattle.run.specs.Next.{next}
-use Rattle.run.specs.Ran.{LINE, told}
+use Rattle.run.specs.Ran.{LINE, Ended, told}
 use Rattle.run.specs.Run.{RECORDS, after, beginning, ending, endFrom, endOf, line, runEnd, runFrom, runText, summary, textOf}
-use Rattle.run.proofs.Counting.{sent-most, saved-most}
+use Rattle.run.proofs.Counting.{one-decrement}
 use Rattle.run.proofs.Next as front-type
 use Rattle.run.proofs.Written.{wrote-both, wrote-length}
 
@@ -104,8 +104,8 @@ module _ {input out₀ out : List ℕ} {p : Progress} {from at : ℕ} (a : Ahead
         → Ahead input out₀ out′ (after p (step (p .table) e)) (from + RECORD) at′
     ahead-more w le = record {
       few = omega arith;
-      sent = omega (arith, a .sent, sent-most (step (p .table) e .deed));
-      saved = omega (arith, a .saved, saved-most (step (p .table) e .deed));
+      sent = omega (arith, a .sent, one-decrement (step (p .table) e .deed));
+      saved = omega (arith, a .saved, one-decrement (step (p .table) e .deed));
       read = omega (arith, a .read, found-whole (drop from input) e f, length-drop from input);
       short = omega (arith, a .short);
       same = wrote-length w ∙ a .same;
@@ -122,7 +122,7 @@ module _ {input out₀ out : List ℕ} {p : Progress} {from at : ℕ} (a : Ahead
       q
 
   module _ {front : Next} (n : front ≡ next (drop from input)) {end : List ℕ} (r : Ran)
-      (f : (r .answer ≡ ACCEPTED) × (r .summary ≡ summary p) × Wrote out at (ending (summary p) front) end (r .length)) where
+      (f : Ended p front out at end r) where
     closes : runFrom (RECORDS - p .records) p (drop from input) ≡ ending (summary p) front → endFrom (RECORDS - p .records) p (drop from input) ≡ p
         → (r ≡ told input) × Wrote out₀ 0 (runText input) end (r .length)
     closes t e =

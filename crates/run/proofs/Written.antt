@@ -42,3 +42,32 @@ wrote-nothing out at r = record { place = omega arith; bytes = refl; inside = om
 -- from the front: the bytes past the text stay
 pub wrote-over : {out text out′ : List ℕ} {n : ℕ} → Wrote out 0 text out′ n → out′ ≡ over text out
 wrote-over {out} {text} w = w .bytes ∙ sets-front out text (omega (arith, w .place, w .inside))
+
+-- ---- a text that is written part by part
+
+-- what is left of it has room, and once that is written, all is done
+pub record Left (Done : List ℕ → ℕ → Type 0) (out : List ℕ) (at : ℕ) (rest : List ℕ) : Type 0 where
+  pub room : Room out at rest
+  pub done : (out′ : List ℕ) (n : ℕ) → Wrote out at rest out′ n → Done out′ n
+
+-- nothing is written yet
+pub all-left : {out : List ℕ} {at : ℕ} {text : List ℕ} → Room out at text → Left (Wrote out at text) out at text
+all-left r = record { room = r; done = λ out′ n w. w }
+
+-- one part more
+pub less-left : {Done : List ℕ → ℕ → Type 0} {out : List ℕ} {at : ℕ} {v : List ℕ} {out′ : List ℕ} {n : ℕ} {rest : List ℕ}
+    → Wrote out at v out′ n → Left Done out at (v ++ rest) → Left Done out′ n rest
+less-left a l = record { room = room-rest a (l .room); done = λ out′ n w. l .done out′ n (wrote-both a w) }
+
+-- some text that has come this far
+pub record Going (out : List ℕ) (at : ℕ) : Type 1 where
+  pub Done : List ℕ → ℕ → Type 0
+  pub rest : List ℕ
+  pub left : Left Done out at rest
+
+abbrev pub going : {Done : List ℕ → ℕ → Type 0} {out : List ℕ} {at : ℕ} {rest : List ℕ} → Left Done out at rest → Going out at
+going l = record { Done = _; rest = _; left = l }
+
+-- where a part ended
+abbrev pub After : {out : List ℕ} {at : ℕ} {v : List ℕ} {out′ : List ℕ} {n : ℕ} → Wrote out at v out′ n → Type 1
+After {out′ = out′} {n = n} w = Going out′ n

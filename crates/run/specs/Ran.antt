@@ -1,5 +1,6 @@
 -- A run into a lent buffer: what comes back, and what the buffer is afterwards. The buffer has room for the longest text that a run can
 -- print, or nothing is written. Definitions only; assumes nothing.
+use mathlib.Core.Path.{_≡_}
 use mathlib.Core.Bool.{Bool}
 use mathlib.Core.List.{List}
 use Prim.Native.Nat.{ℕ, _+_, _*_}
@@ -8,8 +9,11 @@ use lib.ListN.{length}
 use Rattle.terms.specs.Bytes.{over}
 use Rattle.terms.specs.Choose.{if_then_else_}
 use Rattle.terms.specs.Numbers.{ACCEPTED, ROOM}
+use Rattle.run.specs.declared.Next.{Next}
+use Rattle.run.specs.declared.Progress.{Progress}
 use Rattle.run.specs.declared.Ran.{Ran}
-use Rattle.run.specs.Run.{RECORDS, beginning, runEnd, runText, summary}
+use Rattle.run.specs.Buffer.{Wrote}
+use Rattle.run.specs.Run.{RECORDS, beginning, ending, runEnd, runText, summary}
 
 -- the most bytes of an event's line
 abbrev pub LINE : ℕ
@@ -22,6 +26,10 @@ ENDING = 256
 -- the bytes that a buffer needs: no run prints more
 abbrev pub TEXT : ℕ
 TEXT = RECORDS * LINE + ENDING
+
+-- a run that has come to p ends: what ends it is written at `at`, and its summary comes back
+abbrev pub Ended : Progress → Next → List ℕ → ℕ → List ℕ → Ran → Type 0
+Ended p front out at after r = (r .answer ≡ ACCEPTED) × (r .summary ≡ summary p) × Wrote out at (ending (summary p) front) after (r .length)
 
 -- the buffer is too short for some run
 abbrev pub isShort : List ℕ → Bool

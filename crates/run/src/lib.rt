@@ -7,10 +7,9 @@ use table::Table;
 ghost use mathlib.Core.Path.{_≡_};
 ghost use Prim.Native.Nat.{_+_, _≤_};
 ghost use lib.ListN.{length};
-ghost use Rattle.terms.specs.Numbers.{ACCEPTED};
 ghost use Rattle.run.specs.Buffer.{Wrote};
-ghost use Rattle.run.specs.Ran.{ENDING, TEXT, told, ran, runBytes};
-ghost use Rattle.run.specs.Run.{ending, runText, summary};
+ghost use Rattle.run.specs.Ran.{ENDING, TEXT, Ended, told, ran, runBytes};
+ghost use Rattle.run.specs.Run.{runText};
 
 mod advance;
 mod counts;
@@ -63,7 +62,7 @@ pub struct Ran {
 // What ends a run: the last line, before it `stop` if something stands there that is not taken.
 fn finish(out: &mut [u8], at: usize, p: Progress, front: Next) -> Ran
     requires { ⌜ at + ENDING ≤ length (now out) ⌝ }
-    ensures { λ r. ⌜ (r .answer ≡ ACCEPTED) × (r .summary ≡ summary p) × Wrote (now (out .entry)) at (ending (summary p) front) (now (out .exit)) (r .length) ⌝ }
+    ensures { λ r. ⌜ Ended p front (now (out .entry)) at (now (out .exit)) r ⌝ }
 {
     let s = p.summary();
     let length = put_ending(out, at, s, front);

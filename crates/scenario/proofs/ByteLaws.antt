@@ -1,5 +1,5 @@
 -- The readers of a line, one byte further: what the definitions say of the bytes from place i on, by the byte that stands there. Assumes nothing.
-use mathlib.Core.Path.{_≡_, refl, sym, ap, _∙_}
+use mathlib.Core.Path.{_≡_, refl, sym, _∙_}
 use mathlib.Core.Bool.{true, false}
 use mathlib.Core.List.{List, [], _∷_}
 use Prim.Native.Nat.{ℕ, _+_, _-_, _*_, _<_, _≤_}
@@ -9,7 +9,10 @@ use borrow.Author.Tests.{le-leb, lt-leb, eq-eqb, ne-eqb}
 use lib.ListN.{length, getD, take, drop, drop-of-length-le}
 use lib.Seq.{drop-cons}
 use Rattle.scenario.specs.declared.numbers.Read.{Read}
-use Rattle.scenario.specs.Line.{ZERO, RETURN, isBlank, isDigit, skipped, Number, none, found, digits, withoutReturn}
+use Rattle.scenario.specs.declared.numbers.Read.the-variants.{Found, Bad as Unread}
+use Rattle.scenario.specs.declared.Line.{Line}
+use Rattle.scenario.specs.declared.Line.the-variants.{Bad}
+use Rattle.scenario.specs.Line.{ZERO, RETURN, isBlank, isDigit, skipped, none, found, digits, numberIn, after, withoutReturn}
 use Rattle.scenario.specs.Number.{meant, valueOf}
 
 module _ (l : List ℕ) (i : ℕ) where
@@ -51,11 +54,30 @@ module _ (l : List ℕ) (i : ℕ) where
 
 -- ---- what a reader gave, once its variant is known
 
-pub told : (l : List ℕ) {r r′ : Read} {n : Number} → meant l r ≡ n → r ≡ r′ → n ≡ meant l r′
-told l e f = sym e ∙ ap (meant l) f
-
 pub bounded : {r r′ : Read} {n : ℕ} → valueOf r ≤ n → r ≡ r′ → valueOf r′ ≤ n
 bounded le e = rw e at le
+
+-- ---- a line that is read number by number
+
+-- some line of which the bytes before `at` are read: what it means is up to the rest
+pub record Reading (at : ℕ) : Type 0 where
+  pub bytes : List ℕ
+  pub line : Line
+  pub rest : List ℕ → Line
+  pub is : line ≡ rest (drop at bytes)
+
+-- nothing is read yet
+abbrev pub unread : (List ℕ → Line) → List ℕ → Reading 0
+unread means l = record { bytes = l; line = means l; rest = means; is = refl }
+
+-- a number is to come
+module _ {at : ℕ} (r : Reading at) (m : ℕ) (go : ℕ → List ℕ → Line) (e : r .line ≡ after (numberIn m (drop at (r .bytes))) go)
+    {read : Read} (n : meant (r .bytes) read ≡ numberIn m (drop at (r .bytes))) where
+  abbrev pub number-found : {value next : ℕ} → read ≡ Found value next → Reading next
+  number-found {value} f = record { bytes = r .bytes; line = r .line; rest = go value; is = e ∙ rw (← n, f) }
+
+  pub number-bad : read ≡ Unread → Bad ≡ r .line
+  number-bad f = sym (e ∙ rw (← n, f))
 
 -- ---- the carriage return
 

@@ -145,7 +145,8 @@ fn put_line(out: &mut [u8], to: usize, line: Line) -> usize
 // A second pass, which writes the records of all lines, from the front.
 fn put_all(text: &[u8], out: &mut [u8]) -> usize
     requires { ⌜ length (textRecords (now text)) ≤ length (now out) ⌝ }
-    ensures { λ r. ⌜ (r ≡ length (textRecords (now (text .entry)))) × (now (out .exit) ≡ over (textRecords (now (text .entry))) (now (out .entry))) ⌝ }
+    ensures { λ r. ⌜ r ≡ length (textRecords (now (text .entry))) ⌝ }
+    ensures { λ _. ⌜ now (out .exit) ≡ over (textRecords (now (text .entry))) (now (out .entry)) ⌝ }
 {
     let mut to: usize = 0;
     let mut at: usize = 0;
@@ -160,7 +161,8 @@ fn put_all(text: &[u8], out: &mut [u8]) -> usize
 
 // The records of the scenario at the front of out. With a bad line, or too little room, out is as it was.
 pub fn write_events(text: &[u8], out: &mut [u8]) -> Written
-    ensures { λ r. ⌜ (r ≡ writtenOf (now (text .entry)) (length (now (out .entry)))) × (now (out .exit) ≡ bufferOf (now (text .entry)) (now (out .entry))) ⌝ }
+    ensures { λ r. ⌜ r ≡ writtenOf (now (text .entry)) (length (now (out .entry))) ⌝ }
+    ensures { λ _. ⌜ now (out .exit) ≡ bufferOf (now (text .entry)) (now (out .entry)) ⌝ }
 {
     let checked = check(text);
     let bad = checked.bad;

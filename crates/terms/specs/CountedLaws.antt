@@ -1,14 +1,15 @@
 -- What the definitions of specs/Counted.antt come to: each with its last or its first number taken off, as a loop needs it, and what tests and
 -- sums tell of single numbers (lists are in specs/ListLaws.antt). Assumes nothing.
 use mathlib.Core.Path.{_≡_, refl, sym, _∙_}
-use mathlib.Core.Bool.{Bool, true, false}
+use mathlib.Core.Bool.{Bool, true, false, not}
 use mathlib.Core.List.{List, [], _∷_, _++_, append-nil, append-assoc}
 use mathlib.Core.Logic.{_⊎_, inl, inr, ⊎-elim}
 use Prim.Native.Nat.{ℕ, zero, suc, _+_, _-_, _<_, _≤_}
 use native.Mathlib.Decide.{ℕ-discrete}
-use native.Mathlib.Nat.{zero-add, add-zero, add-suc, suc-add}
+use native.Mathlib.Nat.{zero-add, add-zero, add-suc, suc-add, sub-zero}
 use native.Mathlib.Numerals.{add-one}
 use native.Mathlib.Omega.{arith}
+use borrow.Author.Tests.{not-true, not-false}
 use Rattle.terms.specs.Choose.{if_then_else_, _and_}
 use Rattle.terms.specs.Counted.{everyFrom, every, lowestFrom, lowest, sumFrom, sum, one, howMany, listFrom, list, gatherFrom, gather}
 use Rattle.terms.specs.ChooseLaws.{and-passes}
@@ -131,6 +132,30 @@ listFrom-none le f = rw (none-from le)
 pub gatherFrom-none : {A : Type 0} {i n : ℕ} → n ≤ i → (f : ℕ → List A) → gatherFrom i (n - i) f ≡ []
 unfolding gatherFrom
 gatherFrom-none le f = rw (none-from le)
+
+-- ---- a loop that tests the numbers below a limit
+
+-- none below i has failed: the whole test is that of the numbers from i on
+pub record Tested (whole : Bool) (limit : ℕ) (test : ℕ → Bool) (i : ℕ) : Type 0 where
+  pub low : i ≤ limit
+  pub rest : whole ≡ everyFrom i (limit - i) test
+
+-- nothing is tested yet
+pub tested-none : {whole : Bool} {limit : ℕ} {test : ℕ → Bool} → whole ≡ every limit test → Tested whole limit test 0
+tested-none {limit = limit} e = record { low = omega arith; rest = e ∙ rw (sub-zero limit) }
+
+module _ {whole : Bool} {limit : ℕ} {test : ℕ → Bool} {i : ℕ} (t : Tested whole limit test i) where
+  -- i, as b says, fails, and so does the whole
+  pub tested-fails : i < limit → {b : Bool} → b ≡ test i → not b ≡ true → false ≡ whole
+  tested-fails lt {b} e fails = sym (t .rest ∙ everyFrom-fails lt test (sym e ∙ not-true b fails))
+
+  -- i passes
+  pub tested-more : i < limit → {b : Bool} → b ≡ test i → not b ≡ false → Tested whole limit test (i + 1)
+  tested-more lt {b} e passes = record { low = omega arith; rest = t .rest ∙ everyFrom-passes lt test (sym e ∙ not-false b passes) }
+
+  -- all have passed
+  pub tested-all : limit ≤ i → true ≡ whole
+  tested-all le = sym (t .rest ∙ everyFrom-none le test)
 
 -- ---- every
 

@@ -4,21 +4,6 @@ use Rattle.lent.specs.Lent.{fitsAlone}
 use Rattle.lent.proofs.fits_alone.Statement.{statement}
 use Rattle.lent.proofs.fits_alone.Tie as tie
 
-enum-told : tie.Need-enum-told
-enum-told c = search needs
-
-enum-known-e : tie.Need-enum-known-e
-enum-known-e c = search needs
-
-fits-requires : tie.Need-fits-requires
-fits-requires c κs = search needs
-
-enum-known-e-2 : tie.Need-enum-known-e-2
-enum-known-e-2 c = search needs
-
-fits-requires-2 : tie.Need-fits-requires-2
-fits-requires-2 c κs = search needs
-
 returns : tie.Need-returns
 unfolding fitsAlone
 returns c = simp (c .enum-told .given .1)
@@ -35,11 +20,11 @@ pub fits-alone-spec : {M : Type 1} → statement M
 fits-alone-spec =
     tie.close
     (tie.spec
-    enum-told
-    enum-known-e
-    fits-requires
-    enum-known-e-2
-    fits-requires-2
+    (search needs)
+    (search needs)
+    (search needs)
+    (search needs)
+    (search needs)
     returns
     returns-2
     returns-3)

@@ -7,15 +7,9 @@ use Rattle.lent.specs.LentLaws.{lent-in-range}
 use Rattle.lent.proofs.settled.Statement.{statement}
 use Rattle.lent.proofs.settled.Tie as tie
 
-fits-alone-requires : tie.Need-fits-alone-requires
-fits-alone-requires c κs = search needs
-
 returns : tie.Need-returns
 unfolding lent
 returns c = simp (sym (c .before .fits-alone .ensures) ∙ not-true _ (c .if1 .taken))
-
-decrement-fits-requires : tie.Need-decrement-fits-requires
-decrement-fits-requires c κs = search needs
 
 returns-2 : tie.Need-returns-2
 unfolding lent
@@ -24,9 +18,6 @@ returns-2 c =
       sym (c .before .before .before .fits-alone .ensures) ∙ not-false _ (c .before .before .if1 .left),
       sym (c .before .decrement-fits .ensures) ∙ not-true _ (c .if2 .taken),
     )
-
-settled-requires : tie.Need-settled-requires
-settled-requires c κs = search needs
 
 returns-3 : tie.Need-returns-3
 returns-3 c =
@@ -37,4 +28,4 @@ returns-3 c =
 
 pub settled-spec : {M : Type 1} → statement M
 settled-spec =
-    tie.close (tie.spec fits-alone-requires returns decrement-fits-requires returns-2 settled-requires returns-3)
+    tie.close (tie.spec (search needs) returns (search needs) returns-2 (search needs) returns-3)

@@ -8,24 +8,12 @@ use borrow.Author.Needs.{needs}
 use Rattle.run.proofs.run.Statement.{statement}
 use Rattle.run.proofs.run.Tie as tie
 
-beginning-requires : tie.Need-beginning-requires
-beginning-requires c κs = search needs
-
-summary-requires : tie.Need-summary-requires
-summary-requires c κs = search needs
-
 returns : tie.Need-returns
 unfolding ran runBytes
 returns c =
     let out = c .before .before .before .before .before .args .out .now in
     let short = lt-ltb (length out) TEXT (c .before .before .if1 .taken) in
     (simp (short, c .summary .ensures, c .before .beginning .ensures), simp short)
-
-tell-requires : tie.Need-tell-requires
-tell-requires c κs = search needs
-
-same-length : tie.Need-same-length
-same-length c = search needs
 
 returns-2 : tie.Need-returns-2
 unfolding ran runBytes
@@ -38,4 +26,4 @@ returns-2 c =
 pub run-spec : {M : Type 1} → statement M
 run-spec =
     tie.close
-    (tie.spec beginning-requires summary-requires returns tell-requires same-length returns-2)
+    (tie.spec (search needs) (search needs) returns (search needs) (search needs) returns-2)

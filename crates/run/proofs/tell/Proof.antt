@@ -16,17 +16,8 @@ Inv-loop input out₀ p₀ from₀ at₀ out p from at = Ahead input out₀ out 
 abbrev μ-loop : tie.MeasureT-loop
 μ-loop input out₀ p₀ from₀ at₀ out p from at = RECORDS - p .records
 
-beginning-requires : tie.Need-beginning-requires Inv-loop μ-loop
-beginning-requires c κs = search needs
-
 loop-holds : tie.Need-loop-holds Inv-loop μ-loop
 loop-holds c = let a = c .before .before .before .args in rw (c .beginning .ensures) (ahead-all (a .input .now) (a .out .now))
-
-next-at-requires : tie.Need-next-at-requires Inv-loop μ-loop
-next-at-requires c κs = omega arith
-
-enum-known-front : tie.Need-enum-known-front Inv-loop μ-loop
-enum-known-front c = search needs
 
 finish-requires : tie.Need-finish-requires Inv-loop μ-loop
 finish-requires c κs = let h = c .before .before .before .before .before in omega (arith, h .loop .inv, h .before .before .before .before .pre)
@@ -40,12 +31,6 @@ returns c =
     let m = f .before .before in
     let t = m .before .before in
     stopped (t .before .before .loop .inv) (m .before .next-at .ensures) (f .finish .result) (f .finish .ensures) (t .if1 .taken) (m .match .keys2)
-
-step-requires : tie.Need-step-requires Inv-loop μ-loop
-step-requires c κs = search needs
-
-add-put-line : tie.Need-add-put-line Inv-loop μ-loop
-add-put-line c = omega arith
 
 put-line-requires : tie.Need-put-line-requires Inv-loop μ-loop
 put-line-requires c κs =
@@ -76,9 +61,6 @@ loop-again c =
     let written = rw (o .step .ensures) at (w .put-line .ensures .0) in
     rw (c .after .ensures, o .step .ensures) (ahead-more (t .before .before .loop .inv) _ (t .if1 .taken) found written (w .put-line .ensures .1))
 
-next-at-requires-2 : tie.Need-next-at-requires-2 Inv-loop μ-loop
-next-at-requires-2 c κs = omega arith
-
 finish-requires-2 : tie.Need-finish-requires-2 Inv-loop μ-loop
 finish-requires-2 c κs = let h = c .before .before .before .before in omega (arith, h .loop .inv, h .before .before .before .before .pre)
 
@@ -97,21 +79,21 @@ tell-spec =
     (tie.spec
     Inv-loop
     μ-loop
-    beginning-requires
+    (search needs)
     loop-holds
-    next-at-requires
-    enum-known-front
+    (omega arith)
+    (search needs)
     finish-requires
     same-length
     returns
-    step-requires
-    add-put-line
+    (search needs)
+    (omega arith)
     put-line-requires
     after-requires
     add-from
     loop-less
     loop-again
-    next-at-requires-2
+    (omega arith)
     finish-requires-2
     same-length-2
     returns-2)

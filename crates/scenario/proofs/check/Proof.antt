@@ -25,24 +25,6 @@ abbrev μ-loop : tie.MeasureT-loop
 loop-holds : tie.Need-loop-holds Inv-loop μ-loop
 loop-holds c = (omega arith, omega arith, omega arith, refl, omega arith)
 
-line-end-requires : tie.Need-line-end-requires Inv-loop μ-loop
-line-end-requires c κs = search needs
-
-sub-read-line : tie.Need-sub-read-line Inv-loop μ-loop
-sub-read-line c = omega arith
-
-part-read-line-start : tie.Need-part-read-line-start Inv-loop μ-loop
-part-read-line-start c = omega arith
-
-part-read-line-end : tie.Need-part-read-line-end Inv-loop μ-loop
-part-read-line-end c = omega arith
-
-read-line-requires : tie.Need-read-line-requires Inv-loop μ-loop
-read-line-requires c κs = search needs
-
-is-bad-requires : tie.Need-is-bad-requires Inv-loop μ-loop
-is-bad-requires c κs = search needs
-
 returns : tie.Need-returns Inv-loop μ-loop
 returns c =
     let r = c .before .before in
@@ -51,20 +33,8 @@ returns c =
     let bad = first-bad lines (r .read-line .ensures) (h .loop .number) (sym (c .before .is-bad .ensures) ∙ c .if1 .taken) in
     record { line = sym (h .loop .inv .3 ∙ bad); count = λ none. absurd (omega arith) }
 
-events-requires : tie.Need-events-requires Inv-loop μ-loop
-events-requires c κs = search needs
-
 add-events : tie.Need-add-events Inv-loop μ-loop
 add-events c = omega (arith, one-event (c .before .before .before .read-line .result))
-
-add-number : tie.Need-add-number Inv-loop μ-loop
-add-number c = omega arith
-
-add-at : tie.Need-add-at Inv-loop μ-loop
-add-at c = omega arith
-
-loop-less : tie.Need-loop-less Inv-loop μ-loop
-loop-less c = omega arith
 
 loop-again : tie.Need-loop-again Inv-loop μ-loop
 loop-again c =
@@ -90,17 +60,17 @@ check-spec =
     Inv-loop
     μ-loop
     loop-holds
-    line-end-requires
-    sub-read-line
-    part-read-line-start
-    part-read-line-end
-    read-line-requires
-    is-bad-requires
+    (search needs)
+    (omega arith)
+    (omega arith)
+    (omega arith)
+    (search needs)
+    (search needs)
     returns
-    events-requires
+    (search needs)
     add-events
-    add-number
-    add-at
-    loop-less
+    (omega arith)
+    (omega arith)
+    (omega arith)
     loop-again
     returns-2)

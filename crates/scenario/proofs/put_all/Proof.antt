@@ -26,33 +26,12 @@ abbrev μ-loop : tie.MeasureT-loop
 loop-holds : tie.Need-loop-holds Inv-loop μ-loop
 loop-holds c = (refl, omega arith, refl)
 
-line-end-requires : tie.Need-line-end-requires Inv-loop μ-loop
-line-end-requires c κs = search needs
-
-sub-read-line : tie.Need-sub-read-line Inv-loop μ-loop
-sub-read-line c = omega arith
-
-part-read-line-start : tie.Need-part-read-line-start Inv-loop μ-loop
-part-read-line-start c = omega arith
-
-part-read-line-end : tie.Need-part-read-line-end Inv-loop μ-loop
-part-read-line-end c = omega arith
-
-read-line-requires : tie.Need-read-line-requires Inv-loop μ-loop
-read-line-requires c κs = search needs
-
 put-line-requires : tie.Need-put-line-requires Inv-loop μ-loop
 put-line-requires c κs =
     let r = c .before in
     let h = r .before .before .before .before in
     let more = first-size (r .before .before .line-end .ensures .lines) (r .read-line .ensures) in
     omega (arith, more, h .loop .inv .0, h .loop .inv .1, h .before .before .before .pre)
-
-add-at : tie.Need-add-at Inv-loop μ-loop
-add-at c = omega arith
-
-loop-less : tie.Need-loop-less Inv-loop μ-loop
-loop-less c = omega arith
 
 loop-again : tie.Need-loop-again Inv-loop μ-loop
 loop-again c =
@@ -87,14 +66,14 @@ put-all-spec =
     Inv-loop
     μ-loop
     loop-holds
-    line-end-requires
-    sub-read-line
-    part-read-line-start
-    part-read-line-end
-    read-line-requires
+    (search needs)
+    (omega arith)
+    (omega arith)
+    (omega arith)
+    (search needs)
     put-line-requires
-    add-at
-    loop-less
+    (omega arith)
+    (omega arith)
     loop-again
     same-length
     returns)

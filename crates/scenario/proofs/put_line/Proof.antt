@@ -15,29 +15,14 @@ use Rattle.scenario.proofs.put_line.Tie as tie
 one-record : {line : Line} (e : Event) → line ≡ One e → recordsIn line ≡ recordOf e
 one-record e told = ap recordsIn told ∙ records-one e
 
-enum-told : tie.Need-enum-told
-enum-told c = search needs
-
-enum-known-line : tie.Need-enum-known-line
-enum-known-line c = search needs
-
 put-requires : tie.Need-put-requires
 put-requires c κs =
     let one = c .before .before .line .given in
     omega (arith, ap length (one-record (one .0 .0) (one .1)), record-length (one .0 .0))
 
-add-result : tie.Need-add-result
-add-result c = search needs
-
-enum-told-2 : tie.Need-enum-told-2
-enum-told-2 c = search needs
-
 returns : tie.Need-returns
 unfolding recordsOf
 returns c = rw (c .enum-told .given .1) (omega arith, refl)
-
-same-length : tie.Need-same-length
-same-length c = search needs
 
 returns-2 : tie.Need-returns-2
 returns-2 c =
@@ -52,12 +37,12 @@ pub put-line-spec : {M : Type 1} → statement M
 put-line-spec =
     tie.close
     (tie.spec
-    enum-told
-    enum-known-line
+    (search needs)
+    (search needs)
     put-requires
-    add-result
-    enum-told-2
+    (search needs)
+    (search needs)
     returns
-    same-length
+    (search needs)
     returns-2
     returns-3)

@@ -24,9 +24,6 @@ module _ (text : List ℕ) where
     unfolding meaningOf
     is-good z = simp (sym e, eq-eqb bad 0 z)
 
-check-requires : tie.Need-check-requires
-check-requires c κs = search needs
-
 returns : tie.Need-returns
 unfolding writtenOf bufferOf
 returns c =
@@ -51,9 +48,6 @@ put-all-requires c κs =
     let count = k .check .ensures .count (c .before .before .before .if1 .left) in
     omega (arith, records-length events)
 
-same-length : tie.Need-same-length
-same-length c = search needs
-
 returns-3 : tie.Need-returns-3
 unfolding writtenOf bufferOf
 returns-3 c =
@@ -68,4 +62,4 @@ returns-3 c =
 
 pub write-events-spec : {M : Type 1} → statement M
 write-events-spec =
-    tie.close (tie.spec check-requires returns returns-2 put-all-requires same-length returns-3)
+    tie.close (tie.spec (search needs) returns returns-2 put-all-requires (search needs) returns-3)

@@ -7,9 +7,6 @@ use Rattle.entry.specs.Acts.{directoryCameHome}
 use Rattle.entry.proofs.Directory.came_home.Statement.{statement}
 use Rattle.entry.proofs.Directory.came_home.Tie as tie
 
-takes-directory-requires : tie.Need-takes-directory-requires
-takes-directory-requires c κs = search needs
-
 returns : tie.Need-returns
 unfolding directoryCameHome
 returns c = simp (sym (c .before .takes-directory .ensures) ∙ not-true _ (c .if1 .taken))
@@ -22,4 +19,4 @@ unfolding directoryCameHome
 returns-2 c = simp (sym (c .before .before .takes-directory .ensures) ∙ not-false _ (c .before .if1 .left), c .both .ensures)
 
 pub came-home-spec : {M : Type 1} → statement M
-came-home-spec = tie.close (tie.spec takes-directory-requires returns both-requires returns-2)
+came-home-spec = tie.close (tie.spec (search needs) returns both-requires returns-2)

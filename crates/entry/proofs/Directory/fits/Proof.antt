@@ -9,12 +9,9 @@ returns : tie.Need-returns
 unfolding fitsDirectory
 returns c = simp (lt-leb _ _ (c .if1 .taken))
 
-fits-directory-requires : tie.Need-fits-directory-requires
-fits-directory-requires c κs = search needs
-
 returns-2 : tie.Need-returns-2
 unfolding fitsDirectory
 returns-2 c = simp (le-leb _ _ (c .before .before .if1 .left), c .fits-directory .ensures)
 
 pub fits-spec : {M : Type 1} → statement M
-fits-spec = tie.close (tie.spec returns fits-directory-requires returns-2)
+fits-spec = tie.close (tie.spec returns (search needs) returns-2)

@@ -7,11 +7,8 @@ use Rattle.entry.proofs.Directory.is_clear.Tie as tie
 returns : tie.Need-returns
 returns c = simp (ne-eqb _ _ (c .if1 .taken))
 
-is-none-requires : tie.Need-is-none-requires
-is-none-requires c κs = search needs
-
 returns-2 : tie.Need-returns-2
 returns-2 c = simp (eq-eqb _ _ (c .before .before .if1 .left), c .is-none .ensures)
 
 pub is-clear-spec : {M : Type 1} → statement M
-is-clear-spec = tie.close (tie.spec returns is-none-requires returns-2)
+is-clear-spec = tie.close (tie.spec returns (search needs) returns-2)

@@ -12,9 +12,6 @@ returns : tie.Need-returns
 unfolding directorySettled
 returns c = simp (lt-leb _ _ (c .if1 .taken))
 
-fits-requires : tie.Need-fits-requires
-fits-requires c κs = search needs
-
 returns-2 : tie.Need-returns-2
 unfolding directorySettled
 returns-2 c = simp (le-leb _ _ (c .before .before .if1 .left), sym (c .before .fits2 .ensures) ∙ not-true _ (c .if2 .taken))
@@ -51,7 +48,7 @@ settled-spec =
     tie.close
     (tie.spec
     returns
-    fits-requires
+    (search needs)
     returns-2
     takes-directory-requires
     returns-3

@@ -6,24 +6,9 @@ use Rattle.entry.specs.Fits.{fitsEntry}
 use Rattle.entry.proofs.Entry.fits.Statement.{statement}
 use Rattle.entry.proofs.Entry.fits.Tie as tie
 
-is-owner-requires : tie.Need-is-owner-requires
-is-owner-requires c κs = search needs
-
-enum-told : tie.Need-enum-told
-enum-told c = search needs
-
-enum-known-self : tie.Need-enum-known-self
-enum-known-self c = search needs
-
 returns : tie.Need-returns
 unfolding fitsEntry
 returns c = simp (c .before .before .self .given .1, sym (c .before .before .before .before .is-owner .ensures) ∙ not-true _ (c .if1 .taken))
-
-fits-requires : tie.Need-fits-requires
-fits-requires c κs = search needs
-
-enum-known-self-2 : tie.Need-enum-known-self-2
-enum-known-self-2 c = search needs
 
 returns-2 : tie.Need-returns-2
 unfolding fitsEntry
@@ -36,9 +21,6 @@ returns-3 c = simp (
   sym (c .before .before .before .before .before .is-owner .ensures) ∙ c .before .if2 .left,
   eq-eqb _ _ (c .if3 .taken),
 )
-
-fits-requires-2 : tie.Need-fits-requires-2
-fits-requires-2 c κs = search needs
 
 returns-4 : tie.Need-returns-4
 unfolding fitsEntry
@@ -65,15 +47,15 @@ pub fits-spec : {M : Type 1} → statement M
 fits-spec =
     tie.close
     (tie.spec
-    is-owner-requires
-    enum-told
-    enum-known-self
+    (search needs)
+    (search needs)
+    (search needs)
     returns
-    fits-requires
-    enum-known-self-2
+    (search needs)
+    (search needs)
     returns-2
     returns-3
-    fits-requires-2
+    (search needs)
     returns-4
     returns-5
     returns-6)

@@ -5,18 +5,9 @@ use Rattle.entry.specs.AtNode.{holderSent}
 use Rattle.entry.proofs.Entry.holder_sent.Statement.{statement}
 use Rattle.entry.proofs.Entry.holder_sent.Tie as tie
 
-torn-requires : tie.Need-torn-requires
-torn-requires c κs = search needs
-
 returns : tie.Need-returns
 unfolding holderSent
 returns c = simp (not-true (c .before .before .args .e .presence) (c .before .if1 .taken), c .torn .ensures)
-
-sent-home-requires : tie.Need-sent-home-requires
-sent-home-requires c κs = search needs
-
-of-remote-requires : tie.Need-of-remote-requires
-of-remote-requires c κs = search needs
 
 returns-2 : tie.Need-returns-2
 unfolding holderSent
@@ -26,12 +17,6 @@ returns-2 c = simp (
   c .before .sent-home .ensures,
   c .of-remote .ensures,
 )
-
-sent-requires : tie.Need-sent-requires
-sent-requires c κs = search needs
-
-of-remote-requires-2 : tie.Need-of-remote-requires-2
-of-remote-requires-2 c κs = search needs
 
 returns-3 : tie.Need-returns-3
 unfolding holderSent
@@ -46,11 +31,11 @@ pub holder-sent-spec : {M : Type 1} → statement M
 holder-sent-spec =
     tie.close
     (tie.spec
-    torn-requires
+    (search needs)
     returns
-    sent-home-requires
-    of-remote-requires
+    (search needs)
+    (search needs)
     returns-2
-    sent-requires
-    of-remote-requires-2
+    (search needs)
+    (search needs)
     returns-3)

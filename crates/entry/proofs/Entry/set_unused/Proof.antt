@@ -3,21 +3,6 @@ use borrow.Author.Needs.{needs}
 use Rattle.entry.proofs.Entry.set_unused.Statement.{statement}
 use Rattle.entry.proofs.Entry.set_unused.Tie as tie
 
-enum-told : tie.Need-enum-told
-enum-told c = search needs
-
-enum-known-self : tie.Need-enum-known-self
-enum-known-self c = search needs
-
-enum-known-self-2 : tie.Need-enum-known-self-2
-enum-known-self-2 c = search needs
-
-set-unused-requires : tie.Need-set-unused-requires
-set-unused-requires c κs = search needs
-
-returns : tie.Need-returns
-returns c = search needs
-
 returns-2 : tie.Need-returns-2
 returns-2 c = simp (c .before .self .given .1)
 
@@ -28,10 +13,10 @@ pub set-unused-spec : {M : Type 1} → statement M
 set-unused-spec =
     tie.close
     (tie.spec
-    enum-told
-    enum-known-self
-    enum-known-self-2
-    set-unused-requires
-    returns
+    (search needs)
+    (search needs)
+    (search needs)
+    (search needs)
+    (λ c. search needs)
     returns-2
     returns-3)

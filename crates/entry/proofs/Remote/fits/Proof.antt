@@ -14,9 +14,6 @@ returns-2 : tie.Need-returns-2
 unfolding fitsRemote
 returns-2 c = simp (le-leb _ _ (c .before .if1 .left), le-ltb _ _ (c .if2 .taken))
 
-fits-requires : tie.Need-fits-requires
-fits-requires c κs = search needs
-
 returns-3 : tie.Need-returns-3
 unfolding fitsRemote
 returns-3 c = simp (
@@ -24,9 +21,6 @@ returns-3 c = simp (
   lt-ltb _ _ (c .before .before .before .if2 .left),
   sym (c .before .fits2 .ensures) ∙ not-true _ (c .if3 .taken),
 )
-
-fits-requires-2 : tie.Need-fits-requires-2
-fits-requires-2 c κs = search needs
 
 returns-4 : tie.Need-returns-4
 unfolding fitsRemote
@@ -39,4 +33,4 @@ returns-4 c = simp (
 
 pub fits-spec : {M : Type 1} → statement M
 fits-spec =
-    tie.close (tie.spec returns returns-2 fits-requires returns-3 fits-requires-2 returns-4)
+    tie.close (tie.spec returns returns-2 (search needs) returns-3 (search needs) returns-4)

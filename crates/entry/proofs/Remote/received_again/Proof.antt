@@ -13,12 +13,9 @@ returns-2 : tie.Need-returns-2
 unfolding remoteReceivedAgain
 returns-2 c = simp (eq-eqb _ _ (c .before .if1 .left), le-ltb _ _ (c .if2 .taken))
 
-add-t7 : tie.Need-add-t7
-add-t7 c = search needs
-
 returns-3 : tie.Need-returns-3
 unfolding remoteReceivedAgain
 returns-3 c = simp (eq-eqb _ _ (c .before .if1 .left), lt-ltb _ _ (c .if2 .left))
 
 pub received-again-spec : {M : Type 1} → statement M
-received-again-spec = tie.close (tie.spec returns returns-2 add-t7 returns-3)
+received-again-spec = tie.close (tie.spec returns returns-2 (search needs) returns-3)

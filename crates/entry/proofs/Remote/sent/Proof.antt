@@ -9,12 +9,9 @@ returns : tie.Need-returns
 unfolding remoteSent
 returns c = simp (le-ltb _ _ (c .if1 .taken))
 
-add-self : tie.Need-add-self
-add-self c = search needs
-
 returns-2 : tie.Need-returns-2
 unfolding remoteSent
 returns-2 c = simp (lt-ltb _ _ (c .if1 .left))
 
 pub sent-spec : {M : Type 1} → statement M
-sent-spec = tie.close (tie.spec returns add-self returns-2)
+sent-spec = tie.close (tie.spec returns (search needs) returns-2)

@@ -8,9 +8,6 @@ use Rattle.entry.proofs.Signed.{fits-wider}
 use Rattle.entry.proofs.Remote.sent_home.Statement.{statement}
 use Rattle.entry.proofs.Remote.sent_home.Tie as tie
 
-takes-requires : tie.Need-takes-requires
-takes-requires c κs = search needs
-
 returns : tie.Need-returns
 unfolding remoteSentHome
 returns c = simp (sym (c .before .takes .ensures) ∙ not-true _ (c .if1 .taken))
@@ -26,4 +23,4 @@ unfolding remoteSentHome
 returns-2 c = simp (sym (c .before .before .takes .ensures) ∙ not-false _ (c .before .if1 .left), c .both .ensures)
 
 pub sent-home-spec : {M : Type 1} → statement M
-sent-home-spec = tie.close (tie.spec takes-requires returns both-requires returns-2)
+sent-home-spec = tie.close (tie.spec (search needs) returns both-requires returns-2)

@@ -12,9 +12,6 @@ returns : tie.Need-returns
 unfolding remoteSettled
 returns c = simp (lt-leb _ _ (c .if1 .taken))
 
-fits-requires : tie.Need-fits-requires
-fits-requires c κs = search needs
-
 returns-2 : tie.Need-returns-2
 unfolding remoteSettled
 returns-2 c = simp (le-leb _ _ (c .before .before .if1 .left), sym (c .before .fits2 .ensures) ∙ not-true _ (c .if2 .taken))
@@ -50,4 +47,4 @@ returns-4 c = simp (
 pub settled-spec : {M : Type 1} → statement M
 settled-spec =
     tie.close
-    (tie.spec returns fits-requires returns-2 takes-requires returns-3 both-requires returns-4)
+    (tie.spec returns (search needs) returns-2 takes-requires returns-3 both-requires returns-4)

@@ -6,9 +6,6 @@ use Rattle.entry.proofs.Signed.{fits-wider}
 use Rattle.entry.proofs.ReturnCount.takes.Statement.{statement}
 use Rattle.entry.proofs.ReturnCount.takes.Tie as tie
 
-fits-requires : tie.Need-fits-requires
-fits-requires c κs = search needs
-
 returns : tie.Need-returns
 returns c = simp (sym (c .before .fits2 .ensures) ∙ not-true _ (c .if1 .taken))
 
@@ -18,9 +15,6 @@ both-requires c κs = (
   c .before .before .pre,
 )
 
-fits-requires-2 : tie.Need-fits-requires-2
-fits-requires-2 c κs = search needs
-
 returns-2 : tie.Need-returns-2
 returns-2 c = simp (
   sym (c .before .before .before .fits2 .ensures) ∙ not-false _ (c .before .before .if1 .left),
@@ -29,4 +23,4 @@ returns-2 c = simp (
 )
 
 pub takes-spec : {M : Type 1} → statement M
-takes-spec = tie.close (tie.spec fits-requires returns both-requires fits-requires-2 returns-2)
+takes-spec = tie.close (tie.spec (search needs) returns both-requires (search needs) returns-2)

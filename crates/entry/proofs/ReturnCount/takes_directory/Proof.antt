@@ -5,17 +5,11 @@ use borrow.Author.Tests.{not-true, not-false}
 use Rattle.entry.proofs.ReturnCount.takes_directory.Statement.{statement}
 use Rattle.entry.proofs.ReturnCount.takes_directory.Tie as tie
 
-fits-directory-requires : tie.Need-fits-directory-requires
-fits-directory-requires c κs = search needs
-
 returns : tie.Need-returns
 returns c = simp (sym (c .before .fits-directory .ensures) ∙ not-true _ (c .if1 .taken))
 
 both-requires : tie.Need-both-requires
 both-requires c κs = (sym (c .before .fits-directory .ensures) ∙ not-false _ (c .if1 .left), c .before .before .pre)
-
-fits-directory-requires-2 : tie.Need-fits-directory-requires-2
-fits-directory-requires-2 c κs = search needs
 
 returns-2 : tie.Need-returns-2
 returns-2 c = simp (
@@ -27,4 +21,4 @@ returns-2 c = simp (
 pub takes-directory-spec : {M : Type 1} → statement M
 takes-directory-spec =
     tie.close
-    (tie.spec fits-directory-requires returns both-requires fits-directory-requires-2 returns-2)
+    (tie.spec (search needs) returns both-requires (search needs) returns-2)

@@ -13,18 +13,6 @@ returns c =
     let n : length (c .before .args .t1 .objects) ≡ OBJECTS = simp length-map at (c .before .good .0 .1 .1 .0 .1 .0 .1) in
     sym (no-field (c .before .args .t1) (c .before .args .o) (c .before .args .f) (omega arith))
 
-mul-object : tie.Need-mul-object
-mul-object c = search needs
-
-element-copy-out-object : tie.Need-element-copy-out-object
-element-copy-out-object c = search needs
-
-field-requires : tie.Need-field-requires
-field-requires c κs = search needs
-
-returns-2 : tie.Need-returns-2
-returns-2 c = search needs
-
 pub field-spec : {M : Type 1} → statement M
 field-spec =
-    tie.close (tie.spec returns mul-object element-copy-out-object field-requires returns-2)
+    tie.close (tie.spec returns (search needs) (search needs) (search needs) (search needs))

@@ -6,19 +6,13 @@ use Rattle.heap.specs.Heap.{fitsHeap}
 use Rattle.heap.proofs.Heap.fits.Statement.{statement}
 use Rattle.heap.proofs.Heap.fits.Tie as tie
 
-objects-fit-requires : tie.Need-objects-fit-requires
-objects-fit-requires c κs = search needs
-
 returns : tie.Need-returns
 unfolding fitsHeap
 returns c = rw (sym (c .before .objects-fit .ensures) ∙ not-true _ (c .if1 .taken))
-
-roots-fit-requires : tie.Need-roots-fit-requires
-roots-fit-requires c κs = search needs
 
 returns-2 : tie.Need-returns-2
 unfolding fitsHeap
 returns-2 c = rw (sym (c .before .before .objects-fit .ensures) ∙ not-false _ (c .before .if1 .left)) (c .roots-fit .ensures)
 
 pub fits-spec : {M : Type 1} → statement M
-fits-spec = tie.close (tie.spec objects-fit-requires returns roots-fit-requires returns-2)
+fits-spec = tie.close (tie.spec (search needs) returns (search needs) returns-2)

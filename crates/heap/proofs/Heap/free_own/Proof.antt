@@ -29,26 +29,11 @@ returns c =
 loop-holds : tie.Need-loop-holds Inv-loop μ-loop
 loop-holds c = (omega arith, refl)
 
-mul-o : tie.Need-mul-o Inv-loop μ-loop
-mul-o c = omega arith
-
-add-o : tie.Need-add-o Inv-loop μ-loop
-add-o c = omega arith
-
-is-live-requires : tie.Need-is-live-requires Inv-loop μ-loop
-is-live-requires c κs = search needs
-
 returns-2 : tie.Need-returns-2 Inv-loop μ-loop
 returns-2 c =
     let l = c .before .before .before in
     let passes = ap not (sym (c .before .is-live .ensures)) ∙ c .if2 .taken in
     sym (l .loop .inv .1 ∙ lowestFrom-passes (c .before .before .loop-test .taken) _ passes)
-
-add-free : tie.Need-add-free Inv-loop μ-loop
-add-free c = omega arith
-
-loop-less : tie.Need-loop-less Inv-loop μ-loop
-loop-less c = omega arith
 
 loop-again : tie.Need-loop-again Inv-loop μ-loop
 loop-again c =
@@ -67,11 +52,11 @@ free-own-spec =
     μ-loop
     returns
     loop-holds
-    mul-o
-    add-o
-    is-live-requires
+    (omega arith)
+    (omega arith)
+    (search needs)
     returns-2
-    add-free
-    loop-less
+    (omega arith)
+    (omega arith)
     loop-again
     returns-3)

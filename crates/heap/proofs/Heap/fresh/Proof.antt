@@ -3,11 +3,8 @@ use borrow.Author.Needs.{needs}
 use Rattle.heap.proofs.Heap.fresh.Statement.{statement}
 use Rattle.heap.proofs.Heap.fresh.Tie as tie
 
-idle-requires : tie.Need-idle-requires
-idle-requires c κs = search needs
-
 returns : tie.Need-returns
 returns c = simp (c .idle .ensures)
 
 pub fresh-spec : {M : Type 1} → statement M
-fresh-spec = tie.close (tie.spec idle-requires returns)
+fresh-spec = tie.close (tie.spec (search needs) returns)

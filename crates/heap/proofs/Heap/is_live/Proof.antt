@@ -13,14 +13,5 @@ returns c =
     let n : length (c .before .args .t1 .objects) ≡ OBJECTS = simp length-map at (c .before .good .0 .1 .1 .0 .1 .0 .1) in
     sym (not-live (c .before .args .t1) (c .before .args .o) (omega arith))
 
-mul-object : tie.Need-mul-object
-mul-object c = search needs
-
-element-copy-out-object : tie.Need-element-copy-out-object
-element-copy-out-object c = search needs
-
-returns-2 : tie.Need-returns-2
-returns-2 c = search needs
-
 pub is-live-spec : {M : Type 1} → statement M
-is-live-spec = tie.close (tie.spec returns mul-object element-copy-out-object returns-2)
+is-live-spec = tie.close (tie.spec returns (search needs) (search needs) (search needs))

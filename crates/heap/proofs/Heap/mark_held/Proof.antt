@@ -34,21 +34,6 @@ loop-holds : tie.Need-loop-holds Inv-loop μ-loop
 unfolding heldBy
 loop-holds c = (omega arith, refl)
 
-cast-i : tie.Need-cast-i Inv-loop μ-loop
-cast-i c = omega arith
-
-element-copy-out-if1 : tie.Need-element-copy-out-if1 Inv-loop μ-loop
-element-copy-out-if1 c = search needs
-
-mark-fields-requires : tie.Need-mark-fields-requires Inv-loop μ-loop
-mark-fields-requires c κs = search needs
-
-add-o : tie.Need-add-o Inv-loop μ-loop
-add-o c = omega arith
-
-loop-less : tie.Need-loop-less Inv-loop μ-loop
-loop-less c = omega arith
-
 loop-again : tie.Need-loop-again Inv-loop μ-loop
 unfolding mark
 loop-again c =
@@ -69,10 +54,10 @@ mark-held-spec =
     Inv-loop
     μ-loop
     loop-holds
-    cast-i
-    element-copy-out-if1
-    mark-fields-requires
-    add-o
-    loop-less
+    (omega arith)
+    (search needs)
+    (search needs)
+    (omega arith)
+    (omega arith)
     loop-again
     returns)

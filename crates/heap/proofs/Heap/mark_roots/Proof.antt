@@ -19,24 +19,9 @@ Inv-loop self p marks₀ r₀ marks r =
 abbrev μ-loop : tie.MeasureT-loop
 μ-loop self p marks₀ r₀ marks r = ROOTS - r
 
-unmarked-requires : tie.Need-unmarked-requires Inv-loop μ-loop
-unmarked-requires c κs = search needs
-
 loop-holds : tie.Need-loop-holds Inv-loop μ-loop
 unfolding listFrom
 loop-holds c = (omega arith, rw (c .unmarked .ensures))
-
-root-requires : tie.Need-root-requires Inv-loop μ-loop
-root-requires c κs = search needs
-
-with-mark-requires : tie.Need-with-mark-requires Inv-loop μ-loop
-with-mark-requires c κs = search needs
-
-add-r : tie.Need-add-r Inv-loop μ-loop
-add-r c = omega arith
-
-loop-less : tie.Need-loop-less Inv-loop μ-loop
-loop-less c = omega arith
 
 loop-again : tie.Need-loop-again Inv-loop μ-loop
 loop-again c =
@@ -53,11 +38,11 @@ mark-roots-spec =
     (tie.spec
     Inv-loop
     μ-loop
-    unmarked-requires
+    (search needs)
     loop-holds
-    root-requires
-    with-mark-requires
-    add-r
-    loop-less
+    (search needs)
+    (search needs)
+    (omega arith)
+    (omega arith)
     loop-again
     returns)

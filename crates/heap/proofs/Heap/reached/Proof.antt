@@ -11,20 +11,11 @@ use Rattle.heap.specs.Visit.{visited-still, visited-then, visited-walked
 use Rattle.heap.proofs.Heap.reached.Statement.{statement}
 use Rattle.heap.proofs.Heap.reached.Tie as tie
 
-unmarked-requires : tie.Need-unmarked-requires
-unmarked-requires c κs = search needs
-
 returns : tie.Need-returns
 returns c =
     let none : (o : ℕ) → Within (ownedBy (c .before .before .args .p)) o → ⊥ =
     λ o w. omega (arith, eqb-true (owner o) (c .before .before .args .p) (w .inside), w .number) in
     c .unmarked .ensures ∙ walked-only _ _ _ (visited-walked (visited-still refl (λ o l w. absurd (none o w))))
-
-visit-roots-requires : tie.Need-visit-roots-requires
-visit-roots-requires c κs = search needs
-
-visit-pointed-requires : tie.Need-visit-pointed-requires
-visit-pointed-requires c κs = search needs
 
 returns-2 : tie.Need-returns-2
 returns-2 c = walked-only _ _ _ (visited-walked (visited-then (c .before .visit-roots .ensures) (c .visit-pointed .ensures)))
@@ -32,4 +23,4 @@ returns-2 c = walked-only _ _ _ (visited-walked (visited-then (c .before .visit-
 pub reached-spec : {M : Type 1} → statement M
 reached-spec =
     tie.close
-    (tie.spec unmarked-requires returns visit-roots-requires visit-pointed-requires returns-2)
+    (tie.spec (search needs) returns (search needs) (search needs) returns-2)

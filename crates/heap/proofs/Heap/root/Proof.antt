@@ -13,17 +13,5 @@ returns c =
     let n : length (c .before .args .t1 .roots) ≡ NODES = simp length-map at (c .before .good .0 .1 .1 .1 .0 .1 .0 .1) in
     sym (no-root (c .before .args .t1) (c .before .args .p) (c .before .args .r) (omega arith))
 
-mul-roots : tie.Need-mul-roots
-mul-roots c = search needs
-
-element-copy-out-roots : tie.Need-element-copy-out-roots
-element-copy-out-roots c = search needs
-
-root-requires : tie.Need-root-requires
-root-requires c κs = search needs
-
-returns-2 : tie.Need-returns-2
-returns-2 c = search needs
-
 pub root-spec : {M : Type 1} → statement M
-root-spec = tie.close (tie.spec returns mul-roots element-copy-out-roots root-requires returns-2)
+root-spec = tie.close (tie.spec returns (search needs) (search needs) (search needs) (search needs))

@@ -31,27 +31,6 @@ loop-holds : tie.Need-loop-holds Inv-loop μ-loop
 unfolding gatherFrom
 loop-holds c = (omega arith, visited-none (search needs))
 
-cast-i : tie.Need-cast-i Inv-loop μ-loop
-cast-i c = omega arith
-
-array-read-if1 : tie.Need-array-read-if1 Inv-loop μ-loop
-array-read-if1 c = search needs
-
-mul-o : tie.Need-mul-o Inv-loop μ-loop
-mul-o c = omega arith
-
-add-o : tie.Need-add-o Inv-loop μ-loop
-add-o c = omega arith
-
-visit-object-requires : tie.Need-visit-object-requires Inv-loop μ-loop
-visit-object-requires c κs = search needs
-
-add-k : tie.Need-add-k Inv-loop μ-loop
-add-k c = omega arith
-
-loop-less : tie.Need-loop-less Inv-loop μ-loop
-loop-less c = omega arith
-
 loop-again : tie.Need-loop-again Inv-loop μ-loop
 loop-again c =
     let l = c .before .before in
@@ -73,12 +52,12 @@ visit-pointed-spec =
     Inv-loop
     μ-loop
     loop-holds
-    cast-i
-    array-read-if1
-    mul-o
-    add-o
-    visit-object-requires
-    add-k
-    loop-less
+    (omega arith)
+    (search needs)
+    (omega arith)
+    (omega arith)
+    (search needs)
+    (omega arith)
+    (omega arith)
     loop-again
     returns)

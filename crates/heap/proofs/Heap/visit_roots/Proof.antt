@@ -19,24 +19,9 @@ Inv-loop self p marks₀ r₀ marks r = (r ≤ ROOTS) × Visited self (ownedBy p
 abbrev μ-loop : tie.MeasureT-loop
 μ-loop self p marks₀ r₀ marks r = ROOTS - r
 
-unmarked-requires : tie.Need-unmarked-requires Inv-loop μ-loop
-unmarked-requires c κs = search needs
-
 loop-holds : tie.Need-loop-holds Inv-loop μ-loop
 unfolding listFrom
 loop-holds c = (omega arith, rw (c .unmarked .ensures) (visited-none refl))
-
-root-requires : tie.Need-root-requires Inv-loop μ-loop
-root-requires c κs = search needs
-
-visit-object-requires : tie.Need-visit-object-requires Inv-loop μ-loop
-visit-object-requires c κs = search needs
-
-add-r : tie.Need-add-r Inv-loop μ-loop
-add-r c = omega arith
-
-loop-less : tie.Need-loop-less Inv-loop μ-loop
-loop-less c = omega arith
 
 loop-again : tie.Need-loop-again Inv-loop μ-loop
 loop-again c =
@@ -56,11 +41,11 @@ visit-roots-spec =
     (tie.spec
     Inv-loop
     μ-loop
-    unmarked-requires
+    (search needs)
     loop-holds
-    root-requires
-    visit-object-requires
-    add-r
-    loop-less
+    (search needs)
+    (search needs)
+    (omega arith)
+    (omega arith)
     loop-again
     returns)

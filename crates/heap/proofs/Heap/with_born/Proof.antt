@@ -15,17 +15,8 @@ returns c =
     let out : length (c .before .args .t1 .objects) ≤ c .before .args .o = omega arith in
     rw set-out
 
-born-requires : tie.Need-born-requires
-born-requires c κs = search needs
-
-mul-t7 : tie.Need-mul-t7
-mul-t7 c = search needs
-
-element-set-from-self : tie.Need-element-set-from-self
-element-set-from-self c = search needs
-
 returns-2 : tie.Need-returns-2
 returns-2 c = simp (c .born .ensures)
 
 pub with-born-spec : {M : Type 1} → statement M
-with-born-spec = tie.close (tie.spec returns born-requires mul-t7 element-set-from-self returns-2)
+with-born-spec = tie.close (tie.spec returns (search needs) (search needs) (search needs) returns-2)

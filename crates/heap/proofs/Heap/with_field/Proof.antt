@@ -15,21 +15,6 @@ returns c =
     let out : length (c .before .args .t1 .objects) ≤ c .before .args .o = omega arith in
     rw (set-out (c .before .args .t1 .objects) (c .before .args .o))
 
-mul-object : tie.Need-mul-object
-mul-object c = search needs
-
-element-copy-out-object : tie.Need-element-copy-out-object
-element-copy-out-object c = search needs
-
-with-field-requires : tie.Need-with-field-requires
-with-field-requires c κs = search needs
-
-mul-t9 : tie.Need-mul-t9
-mul-t9 c = search needs
-
-element-set-from-self : tie.Need-element-set-from-self
-element-set-from-self c = search needs
-
 returns-2 : tie.Need-returns-2
 returns-2 c = simp (c .with-field .ensures)
 
@@ -38,9 +23,9 @@ with-field-spec =
     tie.close
     (tie.spec
     returns
-    mul-object
-    element-copy-out-object
-    with-field-requires
-    mul-t9
-    element-set-from-self
+    (search needs)
+    (search needs)
+    (search needs)
+    (search needs)
+    (search needs)
     returns-2)

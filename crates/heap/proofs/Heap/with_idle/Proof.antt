@@ -15,17 +15,8 @@ returns c =
     let out : length (c .before .args .t1 .objects) ≤ c .before .args .o = omega arith in
     rw set-out
 
-idle-requires : tie.Need-idle-requires
-idle-requires c κs = search needs
-
-mul-t7 : tie.Need-mul-t7
-mul-t7 c = search needs
-
-element-set-from-self : tie.Need-element-set-from-self
-element-set-from-self c = search needs
-
 returns-2 : tie.Need-returns-2
 returns-2 c = simp (c .idle .ensures)
 
 pub with-idle-spec : {M : Type 1} → statement M
-with-idle-spec = tie.close (tie.spec returns idle-requires mul-t7 element-set-from-self returns-2)
+with-idle-spec = tie.close (tie.spec returns (search needs) (search needs) (search needs) returns-2)

@@ -15,21 +15,6 @@ returns c =
     let out : length (c .before .args .t1 .roots) ≤ c .before .args .p = omega arith in
     rw (set-out (c .before .args .t1 .roots) (c .before .args .p))
 
-mul-roots : tie.Need-mul-roots
-mul-roots c = search needs
-
-element-copy-out-roots : tie.Need-element-copy-out-roots
-element-copy-out-roots c = search needs
-
-with-root-requires : tie.Need-with-root-requires
-with-root-requires c κs = search needs
-
-mul-t9 : tie.Need-mul-t9
-mul-t9 c = search needs
-
-element-set-from-self : tie.Need-element-set-from-self
-element-set-from-self c = search needs
-
 returns-2 : tie.Need-returns-2
 returns-2 c = simp (c .with-root .ensures)
 
@@ -38,9 +23,9 @@ with-root-spec =
     tie.close
     (tie.spec
     returns
-    mul-roots
-    element-copy-out-roots
-    with-root-requires
-    mul-t9
-    element-set-from-self
+    (search needs)
+    (search needs)
+    (search needs)
+    (search needs)
+    (search needs)
     returns-2)

@@ -15,11 +15,5 @@ returns c =
     let out : length (c .before .args .t1 .seen) ≤ c .before .args .x = omega arith in
     rw set-out
 
-element-write-self : tie.Need-element-write-self
-element-write-self c = search needs
-
-returns-2 : tie.Need-returns-2
-returns-2 c = search needs
-
 pub with-mark-spec : {M : Type 1} → statement M
-with-mark-spec = tie.close (tie.spec returns element-write-self returns-2)
+with-mark-spec = tie.close (tie.spec returns (search needs) (search needs))

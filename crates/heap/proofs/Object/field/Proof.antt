@@ -14,11 +14,5 @@ returns c =
     let out : length (c .before .args .t1 .fields) ≤ c .before .args .f = omega arith in
     rw List·getD-eq-default
 
-element-copy-out-result : tie.Need-element-copy-out-result
-element-copy-out-result c = search needs
-
-returns-2 : tie.Need-returns-2
-returns-2 c = search needs
-
 pub field-spec : {M : Type 1} → statement M
-field-spec = tie.close (tie.spec returns element-copy-out-result returns-2)
+field-spec = tie.close (tie.spec returns (search needs) (search needs))

@@ -7,9 +7,6 @@ use Rattle.heap.specs.Heap.{fitsObject}
 use Rattle.heap.proofs.Object.fits.Statement.{statement}
 use Rattle.heap.proofs.Object.fits.Tie as tie
 
-all-fit-requires : tie.Need-all-fit-requires
-all-fit-requires c κs = search needs
-
 returns : tie.Need-returns
 unfolding fitsObject
 returns c =
@@ -17,4 +14,4 @@ returns c =
     c .all-fit .ensures ∙ rw size
 
 pub fits-spec : {M : Type 1} → statement M
-fits-spec = tie.close (tie.spec all-fit-requires returns)
+fits-spec = tie.close (tie.spec (search needs) returns)

@@ -15,11 +15,5 @@ returns c =
     let out : length (c .before .args .t1 .at) ≤ c .before .args .r = omega arith in
     rw set-out
 
-element-write-self : tie.Need-element-write-self
-element-write-self c = search needs
-
-returns-2 : tie.Need-returns-2
-returns-2 c = search needs
-
 pub with-root-spec : {M : Type 1} → statement M
-with-root-spec = tie.close (tie.spec returns element-write-self returns-2)
+with-root-spec = tie.close (tie.spec returns (search needs) (search needs))

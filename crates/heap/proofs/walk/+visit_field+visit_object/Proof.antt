@@ -58,100 +58,38 @@ visit-object-below t =
     (falls 0 visit-object-kinds.ps _<_ μ-visit-object t)
     visit-object.Pre
 
-visit-field-returns : (t : ℕ) → visit-field-lts.Need-returns (
-  field-reads.Asked,
-  field-reads.Learnt,
-  visit-object-below t,
-  visit-object.Post,
-  visit-field-below t,
-  visit-field.Post,
-) (visit-field-at t) visit-field.Post
+-- what the calls ask and tell where the measure is t
+abbrev field-told : ℕ → visit-field-lts.Claims
+field-told t = (field-reads.Asked, field-reads.Learnt, visit-object-below t, visit-object.Post, visit-field-below t, visit-field.Post)
+
+abbrev object-told : ℕ → visit-object-lts.Claims
+object-told t = (visit-field-below t, visit-field.Post)
+
+visit-field-returns : (t : ℕ) → visit-field-lts.Need-returns (field-told t) (visit-field-at t) visit-field.Post
 visit-field-returns t c = rw (listFrom-none (c .if1 .taken) _) (visited-none (search needs))
 
-visit-field-field-requires : (t : ℕ) → visit-field-lts.Need-field-requires (
-  field-reads.Asked,
-  field-reads.Learnt,
-  visit-object-below t,
-  visit-object.Post,
-  visit-field-below t,
-  visit-field.Post,
-) (visit-field-at t) visit-field.Post
-visit-field-field-requires t c κs = search needs
-
-visit-field-visit-object-requires : (t : ℕ) → visit-field-lts.Need-visit-object-requires (
-  field-reads.Asked,
-  field-reads.Learnt,
-  visit-object-below t,
-  visit-object.Post,
-  visit-field-below t,
-  visit-field.Post,
-) (visit-field-at t) visit-field.Post
+visit-field-visit-object-requires : (t : ℕ) → visit-field-lts.Need-visit-object-requires (field-told t) (visit-field-at t) visit-field.Post
 visit-field-visit-object-requires t c κs = (omega arith, c .before .before .pre .1)
 
-visit-field-add-visit-field : (t : ℕ) → visit-field-lts.Need-add-visit-field (
-  field-reads.Asked,
-  field-reads.Learnt,
-  visit-object-below t,
-  visit-object.Post,
-  visit-field-below t,
-  visit-field.Post,
-) (visit-field-at t) visit-field.Post
-visit-field-add-visit-field t c = omega arith
-
-visit-field-visit-field-requires : (t : ℕ) → visit-field-lts.Need-visit-field-requires (
-  field-reads.Asked,
-  field-reads.Learnt,
-  visit-object-below t,
-  visit-object.Post,
-  visit-field-below t,
-  visit-field.Post,
-) (visit-field-at t) visit-field.Post
+visit-field-visit-field-requires : (t : ℕ) → visit-field-lts.Need-visit-field-requires (field-told t) (visit-field-at t) visit-field.Post
 visit-field-visit-field-requires t c κs =
     let s = c .before .before .before in
     let fewer = left-le (ownedBy (s .args .p)) (s .args .marks .seen) (c .visit-object .result .seen) (c .visit-object .ensures .grows) in
     (omega arith, s .pre .1)
 
-visit-field-returns-2 : (t : ℕ) → visit-field-lts.Need-returns-2 (
-  field-reads.Asked,
-  field-reads.Learnt,
-  visit-object-below t,
-  visit-object.Post,
-  visit-field-below t,
-  visit-field.Post,
-) (visit-field-at t) visit-field.Post
+visit-field-returns-2 : (t : ℕ) → visit-field-lts.Need-returns-2 (field-told t) (visit-field-at t) visit-field.Post
 visit-field-returns-2 t c =
     let a = c .before .before .before .before .args in
     rw (listFrom-first (c .before .before .before .if1 .left) (fieldAt (a .heap) (a .o)))
     (visited-then (rw (c .before .before .field .ensures) at (c .before .visit-object .ensures)) (c .visit-field .ensures))
 
-visit-object-returns : (t : ℕ) → visit-object-lts.Need-returns (
-  visit-field-below t,
-  visit-field.Post,
-) (visit-object-at t) visit-object.Post
+visit-object-returns : (t : ℕ) → visit-object-lts.Need-returns (object-told t) (visit-object-at t) visit-object.Post
 visit-object-returns t c = visited-outside (search needs) (ne-eqb _ _ (c .if1 .taken))
 
-visit-object-element-copy-out-if2 : (t : ℕ) → visit-object-lts.Need-element-copy-out-if2 (
-  visit-field-below t,
-  visit-field.Post,
-) (visit-object-at t) visit-object.Post
-visit-object-element-copy-out-if2 t c = omega arith
-
-visit-object-returns-2 : (t : ℕ) → visit-object-lts.Need-returns-2 (
-  visit-field-below t,
-  visit-field.Post,
-) (visit-object-at t) visit-object.Post
+visit-object-returns-2 : (t : ℕ) → visit-object-lts.Need-returns-2 (object-told t) (visit-object-at t) visit-object.Post
 visit-object-returns-2 t c = visited-again (search needs) (c .if2 .taken)
 
-visit-object-element-write-more : (t : ℕ) → visit-object-lts.Need-element-write-more (
-  visit-field-below t,
-  visit-field.Post,
-) (visit-object-at t) visit-object.Post
-visit-object-element-write-more t c = omega arith
-
-visit-object-visit-field-requires : (t : ℕ) → visit-object-lts.Need-visit-field-requires (
-  visit-field-below t,
-  visit-field.Post,
-) (visit-object-at t) visit-object.Post
+visit-object-visit-field-requires : (t : ℕ) → visit-object-lts.Need-visit-field-requires (object-told t) (visit-object-at t) visit-object.Post
 visit-object-visit-field-requires t c κs =
     let s = c .before .before .before in
     let a = s .args in
@@ -159,10 +97,7 @@ visit-object-visit-field-requires t c κs =
     let fewer = left-set (ownedBy (a .p)) (a .t3 .seen) (a .o) (search needs) inside (c .if2 .left) in
     (omega arith, s .pre .1)
 
-visit-object-returns-3 : (t : ℕ) → visit-object-lts.Need-returns-3 (
-  visit-field-below t,
-  visit-field.Post,
-) (visit-object-at t) visit-object.Post
+visit-object-returns-3 : (t : ℕ) → visit-object-lts.Need-returns-3 (object-told t) (visit-object-at t) visit-object.Post
 unfolding listFrom
 visit-object-returns-3 t c =
     let s = c .before .before .before .before in
@@ -170,29 +105,22 @@ visit-object-returns-3 t c =
     visited-enter inside (search needs) (c .visit-field .ensures)
 
 pub +visit-field+visit-object-spec : {M : Type 1} → statement M
-+visit-field+visit-object-spec = close μ-visit-field μ-visit-object (λ t. visit-field-lts.spec (
-  field-reads.Asked,
-  field-reads.Learnt,
-  visit-object-below t,
-  visit-object.Post,
-  visit-field-below t,
-  visit-field.Post,
-)
++visit-field+visit-object-spec = close μ-visit-field μ-visit-object (λ t. visit-field-lts.spec (field-told t)
     (visit-field-at t)
     visit-field.Post
     (visit-field-returns t)
-    (visit-field-field-requires t)
+    (search needs)
     (visit-field-visit-object-requires t)
-    (visit-field-add-visit-field t)
+    (omega arith)
     (visit-field-visit-field-requires t)
     (visit-field-returns-2 t))
     λ t. visit-object-lts.spec
-    (visit-field-below t, visit-field.Post)
+    (object-told t)
     (visit-object-at t)
     visit-object.Post
     (visit-object-returns t)
-    (visit-object-element-copy-out-if2 t)
+    (omega arith)
     (visit-object-returns-2 t)
-    (visit-object-element-write-more t)
+    (omega arith)
     (visit-object-visit-field-requires t)
     (visit-object-returns-3 t)

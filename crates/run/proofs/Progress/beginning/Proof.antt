@@ -3,11 +3,8 @@ use borrow.Author.Needs.{needs}
 use Rattle.run.proofs.Progress.beginning.Statement.{statement}
 use Rattle.run.proofs.Progress.beginning.Tie as tie
 
-fresh-requires : tie.Need-fresh-requires
-fresh-requires c κs = search needs
-
 returns : tie.Need-returns
 returns c = simp (c .fresh .ensures)
 
 pub beginning-spec : {M : Type 1} → statement M
-beginning-spec = tie.close (tie.spec fresh-requires returns)
+beginning-spec = tie.close (tie.spec (search needs) returns)

@@ -4,18 +4,9 @@ use Rattle.run.specs.Run.{summary}
 use Rattle.run.proofs.Progress.summary.Statement.{statement}
 use Rattle.run.proofs.Progress.summary.Tie as tie
 
-live-objects-requires : tie.Need-live-objects-requires
-live-objects-requires c κs = search needs
-
-entries-requires : tie.Need-entries-requires
-entries-requires c κs = search needs
-
-messages-requires : tie.Need-messages-requires
-messages-requires c κs = search needs
-
 returns : tie.Need-returns
 unfolding summary
 returns c = simp (c .before .before .live-objects .ensures, c .before .entries .ensures, c .messages .ensures)
 
 pub summary-spec : {M : Type 1} → statement M
-summary-spec = tie.close (tie.spec live-objects-requires entries-requires messages-requires returns)
+summary-spec = tie.close (tie.spec (search needs) (search needs) (search needs) returns)

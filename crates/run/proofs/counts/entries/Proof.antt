@@ -26,19 +26,10 @@ abbrev μ-loop : tie.MeasureT-loop
 loop-holds : tie.Need-loop-holds Inv-loop μ-loop
 loop-holds c = summed-none OBJECTS _
 
-entries-of-requires : tie.Need-entries-of-requires Inv-loop μ-loop
-entries-of-requires c κs = search needs
-
 add-n : tie.Need-add-n Inv-loop μ-loop
 add-n c =
     let h = c .before .before in
     omega (arith, summed-small OBJECTS _ NODES (few (h .before .args .t)) (h .loop .inv) (c .entries-of .ensures), h .loop .inv .0)
-
-add-o : tie.Need-add-o Inv-loop μ-loop
-add-o c = omega arith
-
-loop-less : tie.Need-loop-less Inv-loop μ-loop
-loop-less c = omega arith
 
 loop-again : tie.Need-loop-again Inv-loop μ-loop
 loop-again c =
@@ -55,9 +46,9 @@ entries-spec =
     Inv-loop
     μ-loop
     loop-holds
-    entries-of-requires
+    (search needs)
     add-n
-    add-o
-    loop-less
+    (omega arith)
+    (omega arith)
     loop-again
     returns)

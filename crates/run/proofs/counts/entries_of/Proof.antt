@@ -26,15 +26,6 @@ abbrev μ-loop : tie.MeasureT-loop
 loop-holds : tie.Need-loop-holds Inv-loop μ-loop
 loop-holds c = summed-none NODES _
 
-entry-at-requires : tie.Need-entry-at-requires Inv-loop μ-loop
-entry-at-requires c κs = search needs
-
-is-absent-requires : tie.Need-is-absent-requires Inv-loop μ-loop
-is-absent-requires c κs = search needs
-
-one-if-requires : tie.Need-one-if-requires Inv-loop μ-loop
-one-if-requires c κs = search needs
-
 add-n : tie.Need-add-n Inv-loop μ-loop
 add-n c =
     let h = c .before .before .before .before in
@@ -42,12 +33,6 @@ add-n c =
     let new = c .one-if .ensures ∙ ap (λ (b : Bool). one (not b)) absent in
     let standing = stands (h .before .args .t) (h .before .args .o) in
     omega (arith, summed-small NODES _ 1 (λ k. one-most (standing k)) (h .loop .inv) new, h .loop .inv .0)
-
-add-p : tie.Need-add-p Inv-loop μ-loop
-add-p c = omega arith
-
-loop-less : tie.Need-loop-less Inv-loop μ-loop
-loop-less c = omega arith
 
 loop-again : tie.Need-loop-again Inv-loop μ-loop
 loop-again c =
@@ -65,11 +50,11 @@ entries-of-spec =
     Inv-loop
     μ-loop
     loop-holds
-    entry-at-requires
-    is-absent-requires
-    one-if-requires
+    (search needs)
+    (search needs)
+    (search needs)
     add-n
-    add-p
-    loop-less
+    (omega arith)
+    (omega arith)
     loop-again
     returns)

@@ -24,23 +24,11 @@ abbrev μ-loop : tie.MeasureT-loop
 loop-holds : tie.Need-loop-holds Inv-loop μ-loop
 loop-holds c = summed-none OBJECTS _
 
-is-live-requires : tie.Need-is-live-requires Inv-loop μ-loop
-is-live-requires c κs = search needs
-
-one-if-requires : tie.Need-one-if-requires Inv-loop μ-loop
-one-if-requires c κs = search needs
-
 add-n : tie.Need-add-n Inv-loop μ-loop
 add-n c =
     let h = c .before .before .before in
     let new = c .one-if .ensures ∙ ap one (c .before .is-live .ensures) in
     omega (arith, summed-small OBJECTS _ 1 (λ k. one-most (isLive (h .before .args .h) k)) (h .loop .inv) new, h .loop .inv .0)
-
-add-o : tie.Need-add-o Inv-loop μ-loop
-add-o c = omega arith
-
-loop-less : tie.Need-loop-less Inv-loop μ-loop
-loop-less c = omega arith
 
 loop-again : tie.Need-loop-again Inv-loop μ-loop
 loop-again c =
@@ -57,10 +45,10 @@ live-objects-spec =
     Inv-loop
     μ-loop
     loop-holds
-    is-live-requires
-    one-if-requires
+    (search needs)
+    (search needs)
     add-n
-    add-o
-    loop-less
+    (omega arith)
+    (omega arith)
     loop-again
     returns)

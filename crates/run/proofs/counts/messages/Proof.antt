@@ -25,27 +25,12 @@ abbrev μ-loop : tie.MeasureT-loop
 loop-holds : tie.Need-loop-holds Inv-loop μ-loop
 loop-holds c = summed-none PLACES _
 
-message-at-requires : tie.Need-message-at-requires Inv-loop μ-loop
-message-at-requires c κs = search needs
-
-is-empty-requires : tie.Need-is-empty-requires Inv-loop μ-loop
-is-empty-requires c κs = search needs
-
-one-if-requires : tie.Need-one-if-requires Inv-loop μ-loop
-one-if-requires c κs = search needs
-
 add-n : tie.Need-add-n Inv-loop μ-loop
 add-n c =
     let h = c .before .before .before .before in
     let empty = c .before .is-empty .ensures ∙ ap isEmpty (c .before .before .message-at .ensures) in
     let new = c .one-if .ensures ∙ ap (λ (b : Bool). one (not b)) empty in
     omega (arith, summed-small PLACES _ 1 (λ k. one-most (holds (h .before .args .t) k)) (h .loop .inv) new, h .loop .inv .0)
-
-add-s : tie.Need-add-s Inv-loop μ-loop
-add-s c = omega arith
-
-loop-less : tie.Need-loop-less Inv-loop μ-loop
-loop-less c = omega arith
 
 loop-again : tie.Need-loop-again Inv-loop μ-loop
 loop-again c =
@@ -63,11 +48,11 @@ messages-spec =
     Inv-loop
     μ-loop
     loop-holds
-    message-at-requires
-    is-empty-requires
-    one-if-requires
+    (search needs)
+    (search needs)
+    (search needs)
     add-n
-    add-s
-    loop-less
+    (omega arith)
+    (omega arith)
     loop-again
     returns)

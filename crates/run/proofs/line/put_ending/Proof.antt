@@ -18,13 +18,10 @@ put-stop-requires c κs = room-front _ (whole (c .before .before))
 put-last-line-requires : tie.Need-put-last-line-requires
 put-last-line-requires c κs = let d = c .before .before .before in room-rest (d .put-stop .ensures) (whole (d .before .before .before))
 
-same-length : tie.Need-same-length
-same-length c = search needs
-
 returns : tie.Need-returns
 returns c =
     let d = c .before .before in
     wrote-both (d .before .before .before .before .put-stop .ensures) (d .put-last-line .ensures)
 
 pub put-ending-spec : {M : Type 1} → statement M
-put-ending-spec = tie.close (tie.spec put-stop-requires put-last-line-requires same-length returns)
+put-ending-spec = tie.close (tie.spec put-stop-requires put-last-line-requires (search needs) returns)

@@ -1,264 +1,104 @@
--- `run::line::put_line` writes an event's line; its numbers are short enough that it fits. Assumes nothing.
-use mathlib.Core.Path.{_∙_}
-use Prim.Native.Nat.{_≤_}
+-- `run::line::put_line` writes an event's line, a part at a time; its numbers are short enough that it fits. Assumes nothing.
+use Prim.Native.Nat.{_+_, _≤_}
 use native.Mathlib.Omega.{arith}
 use lib.ListN.{length}
-use Rattle.run.specs.Buffer.{Room}
+use Rattle.run.specs.Buffer.{Room, Wrote}
 use Rattle.run.specs.Ran.{LINE}
 use Rattle.run.specs.Run.{line}
 use Rattle.run.proofs.Lengths.{line-most}
-use Rattle.run.proofs.Written.{room-front, room-rest, wrote-both}
+use Rattle.run.proofs.Written.{room-front, wrote-length, Going, After, less-left, going}
 use borrow.Author.Needs.{needs}
 use Rattle.run.proofs.line.put_line.Statement.{statement}
 use Rattle.run.proofs.line.put_line.Tie as tie
 
--- the line is short, and there is room for all of it
+-- the line is short
 short : (c : tie.After-value) → let a = c .before .before .before .args in length (line (a .number) (a .e) (a .o)) ≤ LINE
 short c =
     let s = c .before .before .before in
     line-most (s .args .number) (s .args .e) (s .args .o) (s .good .1 .1 .1 .0) (s .good .1 .1 .1 .1 .0)
     (s .pre .0) (omega (arith, c .value .ensures, c .value .ok))
 
-whole : (c : tie.After-value) → let a = c .before .before .before .args in Room (a .out .now) (a .at) (line (a .number) (a .e) (a .o))
-whole c = record { fits = omega (arith, c .before .before .before .pre .1, short c) }
+-- ---- what is left before the first part, and after each
 
-cast-answer : tie.Need-cast-answer
-cast-answer c = search needs
-
-value-requires : tie.Need-value-requires
-value-requires c κs = search needs
-
-put-decimal-requires : tie.Need-put-decimal-requires
+abbrev begun : (c : tie.After-value) → let a = c .before .before .before .args in Going (a .out .now) (a .at)
 unfolding line
-put-decimal-requires c κs =
-    room-front _ (whole (c .before))
+begun c =
+    let s = c .before .before .before in
+    let a = s .args in
+    let whole : Room (a .out .now) (a .at) (line (a .number) (a .e) (a .o)) = record { fits = omega (arith, s .pre .1, short c) } in
+    record {
+      Done = λ out n. Wrote (a .out .now) (a .at) (line (a .number) (a .e) (a .o)) out n × (n ≤ a .at + LINE);
+      rest = _;
+      left = record {
+        room = rw (← c .value .ensures) at whole;
+        done = λ out n w. let w′ = rw (c .value .ensures) at w in (w′, omega (arith, w′ .place, short c));
+      };
+    }
 
-slice-aggregate-put-named : tie.Need-slice-aggregate-put-named
-slice-aggregate-put-named c = search needs
-
-cast-put-named : tie.Need-cast-put-named
-cast-put-named c = search needs
-
-put-named-requires : tie.Need-put-named-requires
+abbrev after-number : (c : tie.After-put-decimal) → After (c .put-decimal .ensures)
 unfolding line
-put-named-requires c κs =
-    let p1 = c .before .before .before .before .before in
-    room-front _ (room-rest (p1 .put-decimal .ensures) (whole (p1 .before .before)))
+after-number c = going (less-left (c .put-decimal .ensures) (begun (c .before .before) .left))
 
-slice-aggregate-put-named-2 : tie.Need-slice-aggregate-put-named-2
-slice-aggregate-put-named-2 c = search needs
-
-cast-put-named-2 : tie.Need-cast-put-named-2
-cast-put-named-2 c = search needs
-
-put-named-requires-2 : tie.Need-put-named-requires-2
+abbrev after-kind : (c : tie.After-put-named) → After (c .put-named .ensures)
 unfolding line
-put-named-requires-2 c κs =
-    let p2 = c .before .before .before .before .before in
-    let p1 = p2 .before .before .before .before .before .before in
-    room-front _ (room-rest (p2 .put-named .ensures) (room-rest (p1 .put-decimal .ensures) (whole (p1 .before .before))))
+after-kind c = going (less-left (c .put-named .ensures) (after-number (c .before .before .before .before .before .before) .left))
 
-slice-aggregate-put-named-3 : tie.Need-slice-aggregate-put-named-3
-slice-aggregate-put-named-3 c = search needs
-
-cast-put-named-3 : tie.Need-cast-put-named-3
-cast-put-named-3 c = search needs
-
-put-named-requires-3 : tie.Need-put-named-requires-3
+abbrev after-a : (c : tie.After-put-named2) → After (c .put-named2 .ensures)
 unfolding line
-put-named-requires-3 c κs =
-    let p3 = c .before .before .before .before .before in
-    let p2 = p3 .before .before .before .before .before .before in
-    let p1 = p2 .before .before .before .before .before .before in
-    room-front _
-    (room-rest (p3 .put-named2 .ensures)
-    (room-rest (p2 .put-named .ensures)
-    (room-rest (p1 .put-decimal .ensures)
-    (whole (p1 .before .before)))))
+after-a c = going (less-left (c .put-named2 .ensures) (after-kind (c .before .before .before .before .before .before) .left))
 
-slice-aggregate-put-named-4 : tie.Need-slice-aggregate-put-named-4
-slice-aggregate-put-named-4 c = search needs
-
-cast-put-named-4 : tie.Need-cast-put-named-4
-cast-put-named-4 c = search needs
-
-put-named-requires-4 : tie.Need-put-named-requires-4
+abbrev after-b : (c : tie.After-put-named3) → After (c .put-named3 .ensures)
 unfolding line
-put-named-requires-4 c κs =
-    let p4 = c .before .before .before .before .before in
-    let p3 = p4 .before .before .before .before .before .before in
-    let p2 = p3 .before .before .before .before .before .before in
-    let p1 = p2 .before .before .before .before .before .before in
-    room-front _
-    (room-rest (p4 .put-named3 .ensures)
-    (room-rest (p3 .put-named2 .ensures)
-    (room-rest (p2 .put-named .ensures)
-    (room-rest (p1 .put-decimal .ensures)
-    (whole (p1 .before .before))))))
+after-b c = going (less-left (c .put-named3 .ensures) (after-a (c .before .before .before .before .before .before) .left))
 
-slice-aggregate-put-named-5 : tie.Need-slice-aggregate-put-named-5
-slice-aggregate-put-named-5 c = search needs
-
-cast-put-named-5 : tie.Need-cast-put-named-5
-cast-put-named-5 c = search needs
-
-put-named-requires-5 : tie.Need-put-named-requires-5
+abbrev after-c : (c : tie.After-put-named4) → After (c .put-named4 .ensures)
 unfolding line
-put-named-requires-5 c κs =
-    let p5 = c .before .before .before .before .before in
-    let p4 = p5 .before .before .before .before .before .before in
-    let p3 = p4 .before .before .before .before .before .before in
-    let p2 = p3 .before .before .before .before .before .before in
-    let p1 = p2 .before .before .before .before .before .before in
-    room-front _
-    (room-rest (p5 .put-named4 .ensures)
-    (room-rest (p4 .put-named3 .ensures)
-    (room-rest (p3 .put-named2 .ensures)
-    (room-rest (p2 .put-named .ensures)
-    (room-rest (p1 .put-decimal .ensures)
-    (whole (p1 .before .before)))))))
+after-c c = going (less-left (c .put-named4 .ensures) (after-b (c .before .before .before .before .before .before) .left))
 
-slice-aggregate-put-named-6 : tie.Need-slice-aggregate-put-named-6
-slice-aggregate-put-named-6 c = search needs
-
-put-named-requires-6 : tie.Need-put-named-requires-6
+abbrev after-d : (c : tie.After-put-named5) → After (c .put-named5 .ensures)
 unfolding line
-put-named-requires-6 c κs =
-    let p6 = c .before .before .before .before in
-    let p5 = p6 .before .before .before .before .before .before in
-    let p4 = p5 .before .before .before .before .before .before in
-    let p3 = p4 .before .before .before .before .before .before in
-    let p2 = p3 .before .before .before .before .before .before in
-    let p1 = p2 .before .before .before .before .before .before in
-    room-front _
-    (room-rest (p6 .put-named5 .ensures)
-    (room-rest (p5 .put-named4 .ensures)
-    (room-rest (p4 .put-named3 .ensures)
-    (room-rest (p3 .put-named2 .ensures)
-    (room-rest (p2 .put-named .ensures)
-    (room-rest (p1 .put-decimal .ensures)
-    (whole (p1 .before .before))))))))
+after-d c = going (less-left (c .put-named5 .ensures) (after-c (c .before .before .before .before .before .before) .left))
 
-slice-aggregate-put-named-7 : tie.Need-slice-aggregate-put-named-7
-slice-aggregate-put-named-7 c = search needs
-
-put-named-requires-7 : tie.Need-put-named-requires-7
+abbrev after-answer : (c : tie.After-put-named6) → After (c .put-named6 .ensures)
 unfolding line
-put-named-requires-7 c κs =
-    let p7 = c .before .before .before .before in
-    let p6 = p7 .before .before .before .before .before in
-    let p5 = p6 .before .before .before .before .before .before in
-    let p4 = p5 .before .before .before .before .before .before in
-    let p3 = p4 .before .before .before .before .before .before in
-    let p2 = p3 .before .before .before .before .before .before in
-    let p1 = p2 .before .before .before .before .before .before in
-    rw (p1 .before .before .value .ensures)
-    (room-front _
-    (room-rest (p7 .put-named6 .ensures)
-    (room-rest (p6 .put-named5 .ensures)
-    (room-rest (p5 .put-named4 .ensures)
-    (room-rest (p4 .put-named3 .ensures)
-    (room-rest (p3 .put-named2 .ensures)
-    (room-rest (p2 .put-named .ensures)
-    (room-rest (p1 .put-decimal .ensures)
-    (whole (p1 .before .before))))))))))
+after-answer c = going (less-left (c .put-named6 .ensures) (after-d (c .before .before .before .before .before) .left))
 
-slice-aggregate-put-text : tie.Need-slice-aggregate-put-text
-slice-aggregate-put-text c = search needs
-
-put-text-requires : tie.Need-put-text-requires
+abbrev after-value : (c : tie.After-put-named7) → After (c .put-named7 .ensures)
 unfolding line
-put-text-requires c κs =
-    let p8 = c .before .before .before .before in
-    let p7 = p8 .before .before .before .before .before in
-    let p6 = p7 .before .before .before .before .before in
-    let p5 = p6 .before .before .before .before .before .before in
-    let p4 = p5 .before .before .before .before .before .before in
-    let p3 = p4 .before .before .before .before .before .before in
-    let p2 = p3 .before .before .before .before .before .before in
-    let p1 = p2 .before .before .before .before .before .before in
-    room-front _
-    (room-rest (rw (p1 .before .before .value .ensures) at (p8 .put-named7 .ensures))
-    (room-rest (p7 .put-named6 .ensures)
-    (room-rest (p6 .put-named5 .ensures)
-    (room-rest (p5 .put-named4 .ensures)
-    (room-rest (p4 .put-named3 .ensures)
-    (room-rest (p3 .put-named2 .ensures)
-    (room-rest (p2 .put-named .ensures)
-    (room-rest (p1 .put-decimal .ensures)
-    (whole (p1 .before .before))))))))))
-
-same-length : tie.Need-same-length
-same-length c =
-    let p9 = c .before .before in
-    let p8 = p9 .before .before .before .before .before in
-    let p7 = p8 .before .before .before .before .before in
-    let p6 = p7 .before .before .before .before .before in
-    let p5 = p6 .before .before .before .before .before .before in
-    let p4 = p5 .before .before .before .before .before .before in
-    let p3 = p4 .before .before .before .before .before .before in
-    let p2 = p3 .before .before .before .before .before .before in
-    let p1 = p2 .before .before .before .before .before .before in
-    p9 .put-text .kept .0
-    ∙ p8 .put-named7 .kept .0
-    ∙ p7 .put-named6 .kept .0
-    ∙ p6 .put-named5 .kept .0
-    ∙ p5 .put-named4 .kept .0
-    ∙ p4 .put-named3 .kept .0
-    ∙ p3 .put-named2 .kept .0
-    ∙ p2 .put-named .kept .0
-    ∙ p1 .put-decimal .kept .0
+after-value c = going (less-left (c .put-named7 .ensures) (after-answer (c .before .before .before .before .before) .left))
 
 returns : tie.Need-returns
 unfolding line
-returns c =
-    let p9 = c .before .before in
-    let p8 = p9 .before .before .before .before .before in
-    let p7 = p8 .before .before .before .before .before in
-    let p6 = p7 .before .before .before .before .before in
-    let p5 = p6 .before .before .before .before .before .before in
-    let p4 = p5 .before .before .before .before .before .before in
-    let p3 = p4 .before .before .before .before .before .before in
-    let p2 = p3 .before .before .before .before .before .before in
-    let p1 = p2 .before .before .before .before .before .before in
-    let w = wrote-both (p1 .put-decimal .ensures)
-    (wrote-both (p2 .put-named .ensures)
-    (wrote-both (p3 .put-named2 .ensures)
-    (wrote-both (p4 .put-named3 .ensures)
-    (wrote-both (p5 .put-named4 .ensures)
-    (wrote-both (p6 .put-named5 .ensures)
-    (wrote-both (p7 .put-named6 .ensures)
-    (wrote-both (rw (p1 .before .before .value .ensures) at (p8 .put-named7 .ensures))
-    (p9 .put-text .ensures)))))))) in
-    (w, omega (arith, w .place, short (p1 .before .before)))
+returns c = let p = c .before .before in after-value (p .before .before .before .before .before) .left .done _ _ (p .put-text .ensures)
 
 pub put-line-spec : {M : Type 1} → statement M
+unfolding line
 put-line-spec =
     tie.close
     (tie.spec
-    cast-answer
-    value-requires
-    put-decimal-requires
-    slice-aggregate-put-named
-    cast-put-named
-    put-named-requires
-    slice-aggregate-put-named-2
-    cast-put-named-2
-    put-named-requires-2
-    slice-aggregate-put-named-3
-    cast-put-named-3
-    put-named-requires-3
-    slice-aggregate-put-named-4
-    cast-put-named-4
-    put-named-requires-4
-    slice-aggregate-put-named-5
-    cast-put-named-5
-    put-named-requires-5
-    slice-aggregate-put-named-6
-    put-named-requires-6
-    slice-aggregate-put-named-7
-    put-named-requires-7
-    slice-aggregate-put-text
-    put-text-requires
-    same-length
+    (search needs)
+    (search needs)
+    (λ c κs. room-front _ (begun (c .before) .left .room))
+    (search needs)
+    (search needs)
+    (λ c κs. room-front _ (after-number (c .before .before .before .before .before) .left .room))
+    (search needs)
+    (search needs)
+    (λ c κs. room-front _ (after-kind (c .before .before .before .before .before) .left .room))
+    (search needs)
+    (search needs)
+    (λ c κs. room-front _ (after-a (c .before .before .before .before .before) .left .room))
+    (search needs)
+    (search needs)
+    (λ c κs. room-front _ (after-b (c .before .before .before .before .before) .left .room))
+    (search needs)
+    (search needs)
+    (λ c κs. room-front _ (after-c (c .before .before .before .before .before) .left .room))
+    (search needs)
+    (λ c κs. room-front _ (after-d (c .before .before .before .before) .left .room))
+    (search needs)
+    (λ c κs. room-front _ (after-answer (c .before .before .before .before) .left .room))
+    (search needs)
+    (λ c κs. room-front _ (after-value (c .before .before .before .before) .left .room))
+    (λ c. wrote-length (returns c .0))
     returns)

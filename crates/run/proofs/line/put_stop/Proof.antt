@@ -4,23 +4,8 @@ use borrow.Author.Needs.{needs}
 use Rattle.run.proofs.line.put_stop.Statement.{statement}
 use Rattle.run.proofs.line.put_stop.Tie as tie
 
-enum-told : tie.Need-enum-told
-enum-told c = search needs
-
-enum-told-2 : tie.Need-enum-told-2
-enum-told-2 c = search needs
-
-slice-aggregate-put-text : tie.Need-slice-aggregate-put-text
-slice-aggregate-put-text c = search needs
-
 put-text-requires : tie.Need-put-text-requires
 put-text-requires c κs = let m = c .before .before in rw (m .enum-told2 .given .1) at (m .before .before .before .pre)
-
-enum-told-3 : tie.Need-enum-told-3
-enum-told-3 c = search needs
-
-slice-aggregate-put-text-2 : tie.Need-slice-aggregate-put-text-2
-slice-aggregate-put-text-2 c = search needs
 
 put-text-requires-2 : tie.Need-put-text-requires-2
 put-text-requires-2 c κs = let m = c .before .before in rw (m .enum-told3 .given .1) at (m .before .before .before .pre)
@@ -28,14 +13,8 @@ put-text-requires-2 c κs = let m = c .before .before in rw (m .enum-told3 .give
 returns : tie.Need-returns
 returns c = let told = c .enum-told .given .1 in rw told (wrote-nothing _ _ (rw told at (c .before .before .before .pre)))
 
-same-length : tie.Need-same-length
-same-length c = search needs
-
 returns-2 : tie.Need-returns-2
 returns-2 c = rw (c .before .before .before .before .before .enum-told2 .given .1) (c .before .before .put-text .ensures)
-
-same-length-2 : tie.Need-same-length-2
-same-length-2 c = search needs
 
 returns-3 : tie.Need-returns-3
 returns-3 c = rw (c .before .before .before .before .before .enum-told3 .given .1) (c .before .before .put-text2 .ensures)
@@ -44,15 +23,15 @@ pub put-stop-spec : {M : Type 1} → statement M
 put-stop-spec =
     tie.close
     (tie.spec
-    enum-told
-    enum-told-2
-    slice-aggregate-put-text
+    (search needs)
+    (search needs)
+    (search needs)
     put-text-requires
-    enum-told-3
-    slice-aggregate-put-text-2
+    (search needs)
+    (search needs)
     put-text-requires-2
     returns
-    same-length
+    (search needs)
     returns-2
-    same-length-2
+    (search needs)
     returns-3)

@@ -9,18 +9,6 @@ use Rattle.run.specs.Next.{next}
 use Rattle.run.proofs.records.next_at.Statement.{statement}
 use Rattle.run.proofs.records.next_at.Tie as tie
 
-sub-next-in : tie.Need-sub-next-in
-sub-next-in c = search needs
-
-part-next-in-start : tie.Need-part-next-in-start
-part-next-in-start c = search needs
-
-part-next-in-end : tie.Need-part-next-in-end
-part-next-in-end c = search needs
-
-next-in-requires : tie.Need-next-in-requires
-next-in-requires c κs = search needs
-
 returns : tie.Need-returns
 returns c =
     let a = c .before .before .before .args in
@@ -28,4 +16,4 @@ returns c =
     c .next-in .ensures ∙ ap next (take-all (length l - a .at) (drop (a .at) l) (omega (arith, length-drop (a .at) l)))
 
 pub next-at-spec : {M : Type 1} → statement M
-next-at-spec = tie.close (tie.spec sub-next-in part-next-in-start part-next-in-end next-in-requires returns)
+next-at-spec = tie.close (tie.spec (search needs) (search needs) (search needs) (search needs) returns)

@@ -15,17 +15,11 @@ returns-2 : tie.Need-returns-2
 unfolding next
 returns-2 c = rw (ne-eqb _ _ (c .before .if1 .left), lt-ltb _ _ (c .if2 .taken))
 
-is-stated-requires : tie.Need-is-stated-requires
-is-stated-requires c κs = search needs
-
 returns-3 : tie.Need-returns-3
 unfolding next
 returns-3 c =
     let s = c .before in
     rw (ne-eqb _ _ (s .before .before .if1 .left), le-ltb _ _ (s .before .if2 .left), sym (s .is-stated .ensures) ∙ not-true _ (c .if3 .taken))
-
-of-record-requires : tie.Need-of-record-requires
-of-record-requires c κs = search needs
 
 returns-4 : tie.Need-returns-4
 unfolding next
@@ -39,4 +33,4 @@ returns-4 c =
     (ap Found (c .of-record .ensures))
 
 pub next-in-spec : {M : Type 1} → statement M
-next-in-spec = tie.close (tie.spec returns returns-2 is-stated-requires returns-3 of-record-requires returns-4)
+next-in-spec = tie.close (tie.spec returns returns-2 (search needs) returns-3 (search needs) returns-4)

@@ -16,13 +16,10 @@ put-decimal-requires c κs =
     let s = d .before .before .before .before in
     room-rest (d .put-text .ensures) (s .pre)
 
-same-length : tie.Need-same-length
-same-length c = search needs
-
 returns : tie.Need-returns
 returns c =
     let d = c .before .before in
     wrote-both (d .before .before .before .before .put-text .ensures) (d .put-decimal .ensures)
 
 pub put-named-spec : {M : Type 1} → statement M
-put-named-spec = tie.close (tie.spec put-text-requires put-decimal-requires same-length returns)
+put-named-spec = tie.close (tie.spec put-text-requires put-decimal-requires (search needs) returns)

@@ -8,31 +8,16 @@ use borrow.Author.Needs.{needs}
 use Rattle.scenario.proofs.lines.read_line.Statement.{statement}
 use Rattle.scenario.proofs.lines.read_line.Tie as tie
 
-read-bare-requires : tie.Need-read-bare-requires
-read-bare-requires c κs = search needs
-
 returns : tie.Need-returns
 unfolding lineOf
 returns c = c .read-bare .ensures ∙ sym (ap bareLine (return-none _ (c .before .if1 .taken)))
 
-sub-last : tie.Need-sub-last
-sub-last c = search needs
-
-shared-slice-read-if2 : tie.Need-shared-slice-read-if2
-shared-slice-read-if2 c = search needs
-
 slice-aggregate-read-bare : tie.Need-slice-aggregate-read-bare
 slice-aggregate-read-bare c = sym (length-take-le _ _ (omega arith))
-
-read-bare-requires-2 : tie.Need-read-bare-requires-2
-read-bare-requires-2 c κs = search needs
 
 returns-2 : tie.Need-returns-2
 unfolding lineOf
 returns-2 c = c .read-bare2 .ensures ∙ sym (ap bareLine (return-last _ (c .before .before .if2 .taken)))
-
-read-bare-requires-3 : tie.Need-read-bare-requires-3
-read-bare-requires-3 c κs = search needs
 
 returns-3 : tie.Need-returns-3
 unfolding lineOf
@@ -42,12 +27,12 @@ pub read-line-spec : {M : Type 1} → statement M
 read-line-spec =
     tie.close
     (tie.spec
-    read-bare-requires
+    (search needs)
     returns
-    sub-last
-    shared-slice-read-if2
+    (search needs)
+    (search needs)
     slice-aggregate-read-bare
-    read-bare-requires-2
+    (search needs)
     returns-2
-    read-bare-requires-3
+    (search needs)
     returns-3)

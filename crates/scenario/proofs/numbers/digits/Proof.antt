@@ -22,15 +22,6 @@ abbrev μ-loop : tie.MeasureT-loop
 loop-holds : tie.Need-loop-holds Inv-loop μ-loop
 loop-holds c = (omega arith, refl)
 
-shared-slice-read-b : tie.Need-shared-slice-read-b Inv-loop μ-loop
-shared-slice-read-b c = omega arith
-
-is-digit-requires : tie.Need-is-digit-requires Inv-loop μ-loop
-is-digit-requires c κs = search needs
-
-cast-t14 : tie.Need-cast-t14 Inv-loop μ-loop
-cast-t14 c = omega arith
-
 returns : tie.Need-returns Inv-loop μ-loop
 returns c =
     let t = c .before .before .before in
@@ -49,9 +40,6 @@ byte c = let h = c .before .before .before .before in getD (h .before .before .a
 digit : (c : tie.Else1 Inv-loop μ-loop) → isDigit (byte c) ≡ true
 digit c = sym (c .before .is-digit .ensures) ∙ not-false _ (c .if1 .left)
 
-mul-more : tie.Need-mul-more Inv-loop μ-loop
-mul-more c = omega arith
-
 sub-more : tie.Need-sub-more Inv-loop μ-loop
 sub-more c = omega (arith, digit-range (byte c) (digit c))
 
@@ -66,19 +54,10 @@ returns-2 c =
     let t = c .before .before .before .before in
     (sym (t .before .loop .inv .1 ∙ digits-over _ _ (t .loop-test .taken) _ _ (digit (c .before)) (c .if2 .taken)), omega arith)
 
-add-i : tie.Need-add-i Inv-loop μ-loop
-add-i c = omega arith
-
-loop-less : tie.Need-loop-less Inv-loop μ-loop
-loop-less c = omega arith
-
 loop-again : tie.Need-loop-again Inv-loop μ-loop
 loop-again c =
     let t = c .before .before .before .before in
     (c .if2 .left, t .before .loop .inv .1 ∙ digits-more _ _ (t .loop-test .taken) _ _ (digit (c .before)) (c .if2 .left))
-
-cast-t17 : tie.Need-cast-t17 Inv-loop μ-loop
-cast-t17 c = omega arith
 
 returns-3 : tie.Need-returns-3 Inv-loop μ-loop
 unfolding digits
@@ -94,17 +73,17 @@ digits-spec =
     Inv-loop
     μ-loop
     loop-holds
-    shared-slice-read-b
-    is-digit-requires
-    cast-t14
+    (omega arith)
+    (search needs)
+    (omega arith)
     returns
-    mul-more
+    (omega arith)
     sub-more
     cast-more
     add-more
     returns-2
-    add-i
-    loop-less
+    (omega arith)
+    (omega arith)
     loop-again
-    cast-t17
+    (omega arith)
     returns-3)

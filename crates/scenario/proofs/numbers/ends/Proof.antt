@@ -6,19 +6,13 @@ use Rattle.scenario.proofs.ByteLaws.{none-left, front}
 use Rattle.scenario.proofs.numbers.ends.Statement.{statement}
 use Rattle.scenario.proofs.numbers.ends.Tie as tie
 
-skip-requires : tie.Need-skip-requires
-skip-requires c κs = search needs
-
 returns : tie.Need-returns
 unfolding ends
 returns c = sym (ap isEnd (sym (c .before .skip .ensures) ∙ none-left _ _ (c .if1 .taken)))
-
-shared-slice-read-b : tie.Need-shared-slice-read-b
-shared-slice-read-b c = search needs
 
 returns-2 : tie.Need-returns-2
 unfolding ends
 returns-2 c = sym (ap isEnd (sym (c .before .before .skip .ensures) ∙ front _ _ (c .before .if1 .left)))
 
 pub ends-spec : {M : Type 1} → statement M
-ends-spec = tie.close (tie.spec skip-requires returns shared-slice-read-b returns-2)
+ends-spec = tie.close (tie.spec (search needs) returns (search needs) returns-2)

@@ -7,20 +7,11 @@ use Rattle.scenario.specs.Line.{numberIn}
 use Rattle.scenario.proofs.numbers.number.Statement.{statement}
 use Rattle.scenario.proofs.numbers.number.Tie as tie
 
-skip-requires : tie.Need-skip-requires
-skip-requires c κs = search needs
-
-starts-number-requires : tie.Need-starts-number-requires
-starts-number-requires c κs = search needs
-
 returns : tie.Need-returns
 unfolding numberIn
 returns c =
     let none = sym (c .before .starts-number .ensures) ∙ not-true _ (c .if1 .taken) in
     (simp (sym (c .before .before .skip .ensures), none), omega arith)
-
-digits-requires : tie.Need-digits-requires
-digits-requires c κs = search needs
 
 returns-2 : tie.Need-returns-2
 unfolding numberIn
@@ -30,4 +21,4 @@ returns-2 c =
 
 pub number-spec : {M : Type 1} → statement M
 number-spec =
-    tie.close (tie.spec skip-requires starts-number-requires returns digits-requires returns-2)
+    tie.close (tie.spec (search needs) (search needs) returns (search needs) returns-2)

@@ -9,14 +9,8 @@ use Rattle.scenario.proofs.numbers.starts_number.Tie as tie
 returns : tie.Need-returns
 returns c = sym (ap startsNumber (none-left _ _ (c .if1 .taken)))
 
-shared-slice-read-b : tie.Need-shared-slice-read-b
-shared-slice-read-b c = search needs
-
-is-digit-requires : tie.Need-is-digit-requires
-is-digit-requires c κs = search needs
-
 returns-2 : tie.Need-returns-2
 returns-2 c = c .is-digit .ensures ∙ sym (ap startsNumber (front _ _ (c .before .before .if1 .left)))
 
 pub starts-number-spec : {M : Type 1} → statement M
-starts-number-spec = tie.close (tie.spec returns shared-slice-read-b is-digit-requires returns-2)
+starts-number-spec = tie.close (tie.spec returns (search needs) (search needs) returns-2)

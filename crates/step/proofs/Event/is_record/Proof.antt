@@ -7,11 +7,8 @@ use Rattle.step.proofs.Event.is_record.Tie as tie
 returns : tie.Need-returns
 returns c = rw (ne-eqb _ _ (c .if1 .taken))
 
-is-stated-requires : tie.Need-is-stated-requires
-is-stated-requires c κs = search needs
-
 returns-2 : tie.Need-returns-2
 returns-2 c = rw (eq-eqb _ _ (c .before .if1 .left)) (c .is-stated .ensures)
 
 pub is-record-spec : {M : Type 1} → statement M
-is-record-spec = tie.close (tie.spec returns is-stated-requires returns-2)
+is-record-spec = tie.close (tie.spec returns (search needs) returns-2)

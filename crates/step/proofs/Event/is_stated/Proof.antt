@@ -5,17 +5,10 @@ use borrow.Author.Needs.{needs}
 use Rattle.step.proofs.Event.is_stated.Statement.{statement}
 use Rattle.step.proofs.Event.is_stated.Tie as tie
 
-byte-at-requires : tie.Need-byte-at-requires
-byte-at-requires c κs = search needs
-
-byte-at-requires-2 : tie.Need-byte-at-requires-2
-byte-at-requires-2 c κs = search needs
-
-word-requires : tie.Need-word-requires
-word-requires c κs = search needs
-
 returns : tie.Need-returns
-returns c = rw (c .word .ensures, c .before .byte-at2 .ensures, c .before .before .byte-at .ensures) (sym (states-by (c .before .before .before .before .args .bytes .now)))
+returns c =
+    rw (c .word .ensures, c .before .byte-at2 .ensures, c .before .before .byte-at .ensures)
+    (sym (states-by (c .before .before .before .before .args .bytes .now)))
 
 pub is-stated-spec : {M : Type 1} → statement M
-is-stated-spec = tie.close (tie.spec byte-at-requires byte-at-requires-2 word-requires returns)
+is-stated-spec = tie.close (tie.spec (search needs) (search needs) (search needs) returns)

@@ -4,46 +4,6 @@ use Rattle.step.specs.Event.{kindOf}
 use Rattle.step.proofs.Kind.of.Statement.{statement}
 use Rattle.step.proofs.Kind.of.Tie as tie
 
-returns : tie.Need-returns
-unfolding kindOf
-returns c = simp (c .match .keys1)
-
-returns-2 : tie.Need-returns-2
-unfolding kindOf
-returns-2 c = simp (c .match .keys2)
-
-returns-3 : tie.Need-returns-3
-unfolding kindOf
-returns-3 c = simp (c .match .keys3)
-
-returns-4 : tie.Need-returns-4
-unfolding kindOf
-returns-4 c = simp (c .match .keys4)
-
-returns-5 : tie.Need-returns-5
-unfolding kindOf
-returns-5 c = simp (c .match .keys5)
-
-returns-6 : tie.Need-returns-6
-unfolding kindOf
-returns-6 c = simp (c .match .keys6)
-
-returns-7 : tie.Need-returns-7
-unfolding kindOf
-returns-7 c = simp (c .match .keys7)
-
-returns-8 : tie.Need-returns-8
-unfolding kindOf
-returns-8 c = simp (c .match .keys8)
-
-returns-9 : tie.Need-returns-9
-unfolding kindOf
-returns-9 c = simp (c .match .keys9)
-
-returns-10 : tie.Need-returns-10
-unfolding kindOf
-returns-10 c = simp (c .match .keys10)
-
 returns-11 : tie.Need-returns-11
 unfolding kindOf
 returns-11 c = simp (
@@ -60,17 +20,18 @@ returns-11 c = simp (
 )
 
 pub of-spec : {M : Type 1} → statement M
+unfolding kindOf
 of-spec =
     tie.close
     (tie.spec
-    returns
-    returns-2
-    returns-3
-    returns-4
-    returns-5
-    returns-6
-    returns-7
-    returns-8
-    returns-9
-    returns-10
+    (λ c. simp (c .match .keys1))
+    (λ c. simp (c .match .keys2))
+    (λ c. simp (c .match .keys3))
+    (λ c. simp (c .match .keys4))
+    (λ c. simp (c .match .keys5))
+    (λ c. simp (c .match .keys6))
+    (λ c. simp (c .match .keys7))
+    (λ c. simp (c .match .keys8))
+    (λ c. simp (c .match .keys9))
+    (λ c. simp (c .match .keys10))
     returns-11)

@@ -7,18 +7,6 @@ use Rattle.step.specs.CollectLaws.{torn-by}
 use Rattle.step.proofs.collect.collect.Statement.{statement}
 use Rattle.step.proofs.collect.collect.Tie as tie
 
-kept-requires : tie.Need-kept-requires
-kept-requires c κs = search needs
-
-present-requires : tie.Need-present-requires
-present-requires c κs = search needs
-
-is-whole-requires : tie.Need-is-whole-requires
-is-whole-requires c κs = search needs
-
-refused-requires : tie.Need-refused-requires
-refused-requires c κs = search needs
-
 returns : tie.Need-returns
 unfolding collectKeeping collectHolding
 returns c =
@@ -31,18 +19,6 @@ returns c =
     torn-by t (cells t (s .good .0)) (s .args .p) (k .result .seen) (h .result .seen) (w .is-whole .result) (h .ensures) (w .is-whole .ensures) in
     let torn = by-parts ∙ c .before .if1 .taken in
     rw (c .refused .ensures, ← k .ensures, torn)
-
-held-requires : tie.Need-held-requires
-held-requires c κs = search needs
-
-reclaimed-requires : tie.Need-reclaimed-requires
-reclaimed-requires c κs = search needs
-
-with-collected-requires : tie.Need-with-collected-requires
-with-collected-requires c κs = search needs
-
-did-requires : tie.Need-did-requires
-did-requires c κs = search needs
 
 returns-2 : tie.Need-returns-2
 unfolding collectKeeping collectHolding
@@ -62,13 +38,13 @@ pub collect-spec : {M : Type 1} → statement M
 collect-spec =
     tie.close
     (tie.spec
-    kept-requires
-    present-requires
-    is-whole-requires
-    refused-requires
+    (search needs)
+    (search needs)
+    (search needs)
+    (search needs)
     returns
-    held-requires
-    reclaimed-requires
-    with-collected-requires
-    did-requires
+    (search needs)
+    (search needs)
+    (λ c κs. search needs)
+    (search needs)
     returns-2)

@@ -27,43 +27,10 @@ abbrev μ-loop : tie.MeasureT-loop
 loop-holds : tie.Need-loop-holds Inv-loop μ-loop
 loop-holds c = (omega arith, filled-none)
 
-mul-o : tie.Need-mul-o Inv-loop μ-loop
-mul-o c = omega arith
-
-add-o : tie.Need-add-o Inv-loop μ-loop
-add-o c = omega arith
-
-cast-own : tie.Need-cast-own Inv-loop μ-loop
-cast-own c = omega arith
-
-mul-cell : tie.Need-mul-cell Inv-loop μ-loop
-mul-cell c = omega arith
-
-element-copy-out-cell : tie.Need-element-copy-out-cell Inv-loop μ-loop
-element-copy-out-cell c = search needs
-
-entry-in-requires : tie.Need-entry-in-requires Inv-loop μ-loop
-entry-in-requires c κs = search needs
-
-cast-i : tie.Need-cast-i Inv-loop μ-loop
-cast-i c = omega arith
-
-is-clear-requires : tie.Need-is-clear-requires Inv-loop μ-loop
-is-clear-requires c κs = search needs
-
-array-write-tests : tie.Need-array-write-tests Inv-loop μ-loop
-array-write-tests c = search needs
-
-add-k : tie.Need-add-k Inv-loop μ-loop
-add-k c = omega arith
-
-loop-less : tie.Need-loop-less Inv-loop μ-loop
-loop-less c = omega arith
-
 loop-again : tie.Need-loop-again Inv-loop μ-loop
 loop-again c =
-    let l = c .before .before .before .before in
-    (omega arith, filled-set (l .loop .inv .1) _ (c .before .before .before .loop-test .taken) (rw (c .is-clear .ensures, c .before .entry-in .ensures)))
+    let t = c .before .before .before in
+    (omega arith, filled-set (t .before .loop .inv .1) _ (t .loop-test .taken) (rw (c .is-clear .ensures, c .before .entry-in .ensures)))
 
 returns : tie.Need-returns Inv-loop μ-loop
 unfolding counted
@@ -76,16 +43,16 @@ counted-spec =
     Inv-loop
     μ-loop
     loop-holds
-    mul-o
-    add-o
-    cast-own
-    mul-cell
-    element-copy-out-cell
-    entry-in-requires
-    cast-i
-    is-clear-requires
-    array-write-tests
-    add-k
-    loop-less
+    (omega arith)
+    (omega arith)
+    (omega arith)
+    (omega arith)
+    (search needs)
+    (search needs)
+    (omega arith)
+    (search needs)
+    (search needs)
+    (omega arith)
+    (omega arith)
     loop-again
     returns)

@@ -7,11 +7,8 @@ use Rattle.step.proofs.collect.entry_changed.Tie as tie
 returns : tie.Need-returns
 returns c = rw (eq-eqb _ _ (c .if1 .taken))
 
-set-unused-requires : tie.Need-set-unused-requires
-set-unused-requires c κs = search needs
-
 returns-2 : tie.Need-returns-2
 returns-2 c = rw (c .set-unused .ensures, ne-eqb _ _ (c .before .if1 .left))
 
 pub entry-changed-spec : {M : Type 1} → statement M
-entry-changed-spec = tie.close (tie.spec returns set-unused-requires returns-2)
+entry-changed-spec = tie.close (tie.spec returns (search needs) returns-2)

@@ -1,4 +1,5 @@
--- `step::collect::heap_collected` meets its contract. The invariant: the objects below `o` are as they are to be, the others as they were. Assumes nothing.
+-- `step::collect::heap_collected` meets its contract. The invariant: the objects below `o` are as they
+-- are to be, the others as they were. Assumes nothing.
 use mathlib.Core.Path.{_≡_, refl, sym, _∙_}
 use mathlib.Core.Bool.{Bool, false}
 use mathlib.Core.List.{List, []}
@@ -33,11 +34,15 @@ objectCollected h p marks k = if reclaims h p marks k then idle else objectAt h 
 objects-length : {vs : List Val} (h : Heap) → Is heap.the-row h vs → length (h .objects) ≡ OBJECTS
 objects-length h good = simp length-map at (good .1 .1 .0 .1 .0 .1)
 
-heap-is : (h : Heap) {objects : List Object} {roots : List Roots} → h .objects ≡ objects → h .roots ≡ roots → h ≡ record { objects = objects; roots = roots }
+heap-is : (h : Heap) {objects : List Object} {roots : List Roots} → h .objects ≡ objects → h .roots ≡ roots
+    → h ≡ record { objects = objects; roots = roots }
 heap-is h os rs = rw (← os, ← rs)
 
 abbrev Inv-loop : tie.InvT-loop
-Inv-loop h p marks after₀ o₀ after o = (o ≤ OBJECTS) × Filled none (objectCollected h p (marks .seen)) (h .objects) o (after .objects) × (after .roots ≡ h .roots)
+Inv-loop h p marks after₀ o₀ after o =
+    (o ≤ OBJECTS)
+    × Filled none (objectCollected h p (marks .seen)) (h .objects) o (after .objects)
+    × (after .roots ≡ h .roots)
 
 abbrev μ-loop : tie.MeasureT-loop
 μ-loop h p marks after₀ o₀ after o = OBJECTS - o
@@ -45,25 +50,15 @@ abbrev μ-loop : tie.MeasureT-loop
 loop-holds : tie.Need-loop-holds Inv-loop μ-loop
 loop-holds c = (omega arith, filled-none, refl)
 
-is-reclaimed-requires : tie.Need-is-reclaimed-requires Inv-loop μ-loop
-is-reclaimed-requires c κs = search needs
-
-with-idle-requires : tie.Need-with-idle-requires Inv-loop μ-loop
-with-idle-requires c κs = search needs
-
-add-o : tie.Need-add-o Inv-loop μ-loop
-add-o c = omega arith
-
-loop-less : tie.Need-loop-less Inv-loop μ-loop
-loop-less c = omega arith
-
 loop-again : tie.Need-loop-again Inv-loop μ-loop
 loop-again c =
     let l = c .before .before .before in
     let n = objects-length (l .before .args .h) (l .before .good .0) in
+    let filled = l .loop .inv .1 in
+    let test = sym (c .before .is-reclaimed .ensures) in
     ⊎-elim
-    (λ w. rw (w .2, w .1 .ensures) (omega arith, filled-set (l .loop .inv .1) idle (omega (arith, n)) (rw (sym (c .before .is-reclaimed .ensures) ∙ w .0 .taken)), l .loop .inv .2))
-    (λ w. rw (w .1) (omega arith, filled-keep (l .loop .inv .1) (rw (sym (c .before .is-reclaimed .ensures) ∙ w .0 .left)), l .loop .inv .2))
+    (λ w. rw (w .2, w .1 .ensures) (omega arith, filled-set filled idle (omega (arith, n)) (rw (test ∙ w .0 .taken)), l .loop .inv .2))
+    (λ w. rw (w .1) (omega arith, filled-keep filled (rw (test ∙ w .0 .left)), l .loop .inv .2))
     (c .if1 .came)
 
 returns : tie.Need-returns Inv-loop μ-loop
@@ -79,9 +74,9 @@ heap-collected-spec =
     Inv-loop
     μ-loop
     loop-holds
-    is-reclaimed-requires
-    with-idle-requires
-    add-o
-    loop-less
+    (search needs)
+    (search needs)
+    (omega arith)
+    (omega arith)
     loop-again
     returns)

@@ -5,25 +5,20 @@ use borrow.Author.Needs.{needs}
 use Rattle.step.proofs.collect.is_changed.Statement.{statement}
 use Rattle.step.proofs.collect.is_changed.Tie as tie
 
-is-reclaimed-requires : tie.Need-is-reclaimed-requires
-is-reclaimed-requires c κs = search needs
-
 returns : tie.Need-returns
 returns c = rw (c .is-reclaimed .ensures, eq-eqb _ _ (c .before .if1 .taken))
-
-is-marked-requires : tie.Need-is-marked-requires
-is-marked-requires c κs = search needs
 
 returns-2 : tie.Need-returns-2
 returns-2 c = rw (ne-eqb _ _ (c .before .before .if1 .left), sym (c .before .is-marked .ensures) ∙ c .if2 .taken)
 
-is-marked-requires-2 : tie.Need-is-marked-requires-2
-is-marked-requires-2 c κs = search needs
-
 returns-3 : tie.Need-returns-3
-returns-3 c = rw (c .is-marked2 .ensures, ne-eqb _ _ (c .before .before .before .if1 .left), sym (c .before .before .is-marked .ensures) ∙ c .before .if2 .left)
+returns-3 c = rw (
+  c .is-marked2 .ensures,
+  ne-eqb _ _ (c .before .before .before .if1 .left),
+  sym (c .before .before .is-marked .ensures) ∙ c .before .if2 .left,
+)
 
 pub is-changed-spec : {M : Type 1} → statement M
 is-changed-spec =
     tie.close
-    (tie.spec is-reclaimed-requires returns is-marked-requires returns-2 is-marked-requires-2 returns-3)
+    (tie.spec (search needs) returns (search needs) returns-2 (search needs) returns-3)

@@ -3,14 +3,8 @@ use borrow.Author.Needs.{needs}
 use Rattle.step.proofs.collect.kept.Statement.{statement}
 use Rattle.step.proofs.collect.kept.Tie as tie
 
-counted-requires : tie.Need-counted-requires
-counted-requires c κs = search needs
-
-reached-requires : tie.Need-reached-requires
-reached-requires c κs = search needs
-
 returns : tie.Need-returns
 returns c = rw (c .reached .ensures, c .before .before .counted .ensures)
 
 pub kept-spec : {M : Type 1} → statement M
-kept-spec = tie.close (tie.spec counted-requires reached-requires returns)
+kept-spec = tie.close (tie.spec (search needs) (search needs) returns)

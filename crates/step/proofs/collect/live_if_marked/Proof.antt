@@ -5,17 +5,11 @@ use borrow.Author.Needs.{needs}
 use Rattle.step.proofs.collect.live_if_marked.Statement.{statement}
 use Rattle.step.proofs.collect.live_if_marked.Tie as tie
 
-is-marked-requires : tie.Need-is-marked-requires
-is-marked-requires c κs = search needs
-
 returns : tie.Need-returns
 returns c = rw (sym (c .before .is-marked .ensures) ∙ not-true _ (c .if1 .taken))
-
-is-live-requires : tie.Need-is-live-requires
-is-live-requires c κs = search needs
 
 returns-2 : tie.Need-returns-2
 returns-2 c = rw (c .is-live .ensures, sym (c .before .before .is-marked .ensures) ∙ not-false _ (c .before .if1 .left))
 
 pub live-if-marked-spec : {M : Type 1} → statement M
-live-if-marked-spec = tie.close (tie.spec is-marked-requires returns is-live-requires returns-2)
+live-if-marked-spec = tie.close (tie.spec (search needs) returns (search needs) returns-2)

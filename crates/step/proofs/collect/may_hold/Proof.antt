@@ -23,12 +23,9 @@ returns-3 c =
     let unmarked : isMarked (a .present .seen) (a .x) ≡ false = List·getD-eq-default (a .present .seen) false (omega (arith, n, c .if3 .taken)) in
     rw (ne-eqb _ _ (c .before .before .if1 .left), ne-eqb _ _ (c .before .if2 .left), unmarked)
 
-is-marked-requires : tie.Need-is-marked-requires
-is-marked-requires c κs = search needs
-
 returns-4 : tie.Need-returns-4
 returns-4 c = rw (c .is-marked .ensures, ne-eqb _ _ (c .before .before .before .if1 .left), ne-eqb _ _ (c .before .before .if2 .left))
 
 pub may-hold-spec : {M : Type 1} → statement M
 may-hold-spec =
-    tie.close (tie.spec returns returns-2 returns-3 is-marked-requires returns-4)
+    tie.close (tie.spec returns returns-2 returns-3 (search needs) returns-4)

@@ -6,19 +6,13 @@ use Rattle.terms.specs.Counted.{all}
 use Rattle.step.proofs.collect.object_allowed.Statement.{statement}
 use Rattle.step.proofs.collect.object_allowed.Tie as tie
 
-is-marked-requires : tie.Need-is-marked-requires
-is-marked-requires c κs = search needs
-
 returns : tie.Need-returns
 unfolding all
 returns c = rw (sym (c .before .is-marked .ensures) ∙ not-true _ (c .if1 .taken))
-
-fields-allowed-requires : tie.Need-fields-allowed-requires
-fields-allowed-requires c κs = search needs
 
 returns-2 : tie.Need-returns-2
 returns-2 c = rw (c .fields-allowed .ensures, sym (c .before .before .is-marked .ensures) ∙ not-false _ (c .before .if1 .left))
 
 pub object-allowed-spec : {M : Type 1} → statement M
 object-allowed-spec =
-    tie.close (tie.spec is-marked-requires returns fields-allowed-requires returns-2)
+    tie.close (tie.spec (search needs) returns (search needs) returns-2)

@@ -21,34 +21,10 @@ abbrev μ-loop : tie.MeasureT-loop
 loop-holds : tie.Need-loop-holds Inv-loop μ-loop
 loop-holds c = (omega arith, filled-none)
 
-cast-i : tie.Need-cast-i Inv-loop μ-loop
-cast-i c = omega arith
-
-mul-cell : tie.Need-mul-cell Inv-loop μ-loop
-mul-cell c = omega arith
-
-element-copy-out-cell : tie.Need-element-copy-out-cell Inv-loop μ-loop
-element-copy-out-cell c = search needs
-
-entry-in-requires : tie.Need-entry-in-requires Inv-loop μ-loop
-entry-in-requires c κs = search needs
-
-is-present-requires : tie.Need-is-present-requires Inv-loop μ-loop
-is-present-requires c κs = search needs
-
-array-write-seen : tie.Need-array-write-seen Inv-loop μ-loop
-array-write-seen c = search needs
-
-add-o : tie.Need-add-o Inv-loop μ-loop
-add-o c = omega arith
-
-loop-less : tie.Need-loop-less Inv-loop μ-loop
-loop-less c = omega arith
-
 loop-again : tie.Need-loop-again Inv-loop μ-loop
 loop-again c =
-    let l = c .before .before .before .before in
-    (omega arith, filled-set (l .loop .inv .1) _ (c .before .before .before .loop-test .taken) (rw (c .is-present .ensures, c .before .entry-in .ensures)))
+    let t = c .before .before .before in
+    (omega arith, filled-set (t .before .loop .inv .1) _ (t .loop-test .taken) (rw (c .is-present .ensures, c .before .entry-in .ensures)))
 
 returns : tie.Need-returns Inv-loop μ-loop
 returns c = filled-all (c .before .loop .inv .1) OBJECTS refl (c .loop-test .left)
@@ -60,13 +36,13 @@ present-spec =
     Inv-loop
     μ-loop
     loop-holds
-    cast-i
-    mul-cell
-    element-copy-out-cell
-    entry-in-requires
-    is-present-requires
-    array-write-seen
-    add-o
-    loop-less
+    (omega arith)
+    (omega arith)
+    (search needs)
+    (search needs)
+    (search needs)
+    (search needs)
+    (omega arith)
+    (omega arith)
     loop-again
     returns)

@@ -22,18 +22,6 @@ loop-holds : tie.Need-loop-holds Inv-loop μ-loop
 unfolding sumFrom
 loop-holds c = (omega arith, omega arith, refl)
 
-is-reclaimed-requires : tie.Need-is-reclaimed-requires Inv-loop μ-loop
-is-reclaimed-requires c κs = search needs
-
-add-n : tie.Need-add-n Inv-loop μ-loop
-add-n c = omega arith
-
-add-o : tie.Need-add-o Inv-loop μ-loop
-add-o c = omega arith
-
-loop-less : tie.Need-loop-less Inv-loop μ-loop
-loop-less c = omega arith
-
 loop-again : tie.Need-loop-again Inv-loop μ-loop
 loop-again c =
     let l = c .before .before .before in
@@ -59,9 +47,9 @@ reclaimed-spec =
     Inv-loop
     μ-loop
     loop-holds
-    is-reclaimed-requires
-    add-n
-    add-o
-    loop-less
+    (search needs)
+    (omega arith)
+    (omega arith)
+    (omega arith)
     loop-again
     returns)

@@ -1,4 +1,5 @@
--- `step::collect::with_collected` meets its contract. The invariant: the cells below `o` are as they are to be, all else is as it was. Assumes nothing.
+-- `step::collect::with_collected` meets its contract. The invariant: the cells below `o` are as they are
+-- to be, all else is as it was. Assumes nothing.
 use mathlib.Core.Path.{_≡_, refl, sym, ap, _∙_}
 use mathlib.Core.Bool.{Bool}
 use mathlib.Core.List.{List, []}
@@ -28,46 +29,16 @@ abbrev collectedAt : Table → ℕ → List Bool → ℕ → Cell
 collectedAt t p marks k = cellCollected t p marks (heldAt t p marks) k (cellAt t k)
 
 abbrev Inv-loop : tie.InvT-loop
-Inv-loop p marks present held t₀ h o₀ t o = (o ≤ OBJECTS) × Filled none (collectedAt t₀ p (marks .seen)) (t₀ .cells) o (t .cells) × (withCells t (t₀ .cells) ≡ t₀)
+Inv-loop p marks present held t₀ h o₀ t o =
+    (o ≤ OBJECTS)
+    × Filled none (collectedAt t₀ p (marks .seen)) (t₀ .cells) o (t .cells)
+    × (withCells t (t₀ .cells) ≡ t₀)
 
 abbrev μ-loop : tie.MeasureT-loop
 μ-loop p marks present held t₀ h o₀ t o = OBJECTS - o
 
 loop-holds : tie.Need-loop-holds Inv-loop μ-loop
 loop-holds c = (omega arith, filled-none, refl)
-
-is-changed-requires : tie.Need-is-changed-requires Inv-loop μ-loop
-is-changed-requires c κs = search needs
-
-cast-i : tie.Need-cast-i Inv-loop μ-loop
-cast-i c = omega arith
-
-mul-cell : tie.Need-mul-cell Inv-loop μ-loop
-mul-cell c = omega arith
-
-element-copy-out-cell : tie.Need-element-copy-out-cell Inv-loop μ-loop
-element-copy-out-cell c = search needs
-
-entry-in-requires : tie.Need-entry-in-requires Inv-loop μ-loop
-entry-in-requires c κs = search needs
-
-entry-changed-requires : tie.Need-entry-changed-requires Inv-loop μ-loop
-entry-changed-requires c κs = search needs
-
-with-entry-requires : tie.Need-with-entry-requires Inv-loop μ-loop
-with-entry-requires c κs = search needs
-
-mul-changed : tie.Need-mul-changed Inv-loop μ-loop
-mul-changed c = omega arith
-
-element-set-from-changed : tie.Need-element-set-from-changed Inv-loop μ-loop
-element-set-from-changed c = search needs
-
-add-o : tie.Need-add-o Inv-loop μ-loop
-add-o c = omega arith
-
-loop-less : tie.Need-loop-less Inv-loop μ-loop
-loop-less c = omega arith
 
 loop-again : tie.Need-loop-again Inv-loop μ-loop
 loop-again c =
@@ -89,9 +60,6 @@ loop-again c =
     (λ w. rw (w .1) (omega arith, filled-keep filled (stays (test ∙ w .0 .left)), l .loop .inv .2))
     (c .if1 .came)
 
-heap-collected-requires : tie.Need-heap-collected-requires Inv-loop μ-loop
-heap-collected-requires c κs = search needs
-
 returns : tie.Need-returns Inv-loop μ-loop
 unfolding heapCollected
 returns c =
@@ -109,17 +77,17 @@ with-collected-spec =
     Inv-loop
     μ-loop
     loop-holds
-    is-changed-requires
-    cast-i
-    mul-cell
-    element-copy-out-cell
-    entry-in-requires
-    entry-changed-requires
-    with-entry-requires
-    mul-changed
-    element-set-from-changed
-    add-o
-    loop-less
+    (search needs)
+    (omega arith)
+    (omega arith)
+    (search needs)
+    (search needs)
+    (search needs)
+    (search needs)
+    (omega arith)
+    (search needs)
+    (omega arith)
+    (omega arith)
     loop-again
-    heap-collected-requires
+    (search needs)
     returns)

@@ -5,27 +5,6 @@ use Rattle.step.specs.Drop.{dropOf}
 use Rattle.step.proofs.drop.drop.Statement.{statement}
 use Rattle.step.proofs.drop.drop.Tie as tie
 
-entry-at-requires : tie.Need-entry-at-requires
-entry-at-requires c κs = search needs
-
-enum-told : tie.Need-enum-told
-enum-told c = search needs
-
-refused-requires : tie.Need-refused-requires
-refused-requires c κs = search needs
-
-enum-known-e : tie.Need-enum-known-e
-enum-known-e c = search needs
-
-drop-directory-requires : tie.Need-drop-directory-requires
-drop-directory-requires c κs = search needs
-
-enum-known-e-2 : tie.Need-enum-known-e-2
-enum-known-e-2 c = search needs
-
-drop-remote-requires : tie.Need-drop-remote-requires
-drop-remote-requires c κs = search needs
-
 returns : tie.Need-returns
 unfolding dropOf
 returns c = simp (sym (c .before .before .before .entry-at .ensures) ∙ c .before .enum-told .given .1, c .refused .ensures)
@@ -42,13 +21,13 @@ pub drop-spec : {M : Type 1} → statement M
 drop-spec =
     tie.close
     (tie.spec
-    entry-at-requires
-    enum-told
-    refused-requires
-    enum-known-e
-    drop-directory-requires
-    enum-known-e-2
-    drop-remote-requires
+    (search needs)
+    (search needs)
+    (search needs)
+    (search needs)
+    (search needs)
+    (search needs)
+    (search needs)
     returns
     returns-2
     returns-3)

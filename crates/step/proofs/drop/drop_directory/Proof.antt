@@ -6,27 +6,19 @@ use Rattle.step.specs.Drop.{dropOf}
 use Rattle.step.proofs.drop.drop_directory.Statement.{statement}
 use Rattle.step.proofs.drop.drop_directory.Tie as tie
 
-may-go-requires : tie.Need-may-go-requires
-may-go-requires c κs = search needs
-
-refused-requires : tie.Need-refused-requires
-refused-requires c κs = search needs
-
 returns : tie.Need-returns
 unfolding dropOf
 returns c = simp (sym (c .before .before .may-go .ensures) ∙ not-true _ (c .before .if1 .taken), c .refused .ensures)
 
-with-entry-requires : tie.Need-with-entry-requires
-with-entry-requires c κs = search needs
-
-did-requires : tie.Need-did-requires
-did-requires c κs = search needs
-
 returns-2 : tie.Need-returns-2
 unfolding dropOf
-returns-2 c = simp (sym (c .before .before .before .may-go .ensures) ∙ not-false _ (c .before .before .if1 .left), c .before .with-entry .ensures, c .did .ensures)
+returns-2 c = simp (
+  sym (c .before .before .before .may-go .ensures) ∙ not-false _ (c .before .before .if1 .left),
+  c .before .with-entry .ensures,
+  c .did .ensures,
+)
 
 pub drop-directory-spec : {M : Type 1} → statement M
 drop-directory-spec =
     tie.close
-    (tie.spec may-go-requires refused-requires returns with-entry-requires did-requires returns-2)
+    (tie.spec (search needs) (search needs) returns (search needs) (search needs) returns-2)

@@ -1,68 +1,52 @@
 -- `step::fields::store` meets its contract: each refusal in the order in which it is tried, then the effect. Assumes nothing.
 use mathlib.Core.Path.{sym, _∙_}
 use borrow.Author.Needs.{needs}
-use borrow.Author.Tests.{eq-eqb, ne-eqb, not-false, not-true}
+use borrow.Author.Tests.{not-false, not-true}
 use Rattle.step.specs.Store.{store}
+use Rattle.step.proofs.Reach.{root-empty, root-away, root-torn, in-reach}
 use Rattle.step.proofs.fields.store.Statement.{statement}
 use Rattle.step.proofs.fields.store.Tie as tie
 
-root-requires : tie.Need-root-requires
-root-requires c κs = search needs
-
-refused-requires : tie.Need-refused-requires
-refused-requires c κs = search needs
-
 returns : tie.Need-returns
 unfolding store
-returns c = rw (c .refused .ensures, ← c .before .before .root .ensures, eq-eqb _ _ (c .before .if1 .taken))
-
-refused-requires-2 : tie.Need-refused-requires-2
-refused-requires-2 c κs = search needs
+returns c = c .refused .ensures ∙ root-empty _ _ _ (c .before .before .root .ensures) (c .before .if1 .taken)
 
 returns-2 : tie.Need-returns-2
 unfolding store
-returns-2 c = rw (c .refused2 .ensures, ← c .before .before .before .root .ensures, ne-eqb _ _ (c .before .before .if1 .left), ne-eqb _ _ (c .before .if2 .taken))
-
-is-live-requires : tie.Need-is-live-requires
-is-live-requires c κs = search needs
-
-refused-requires-3 : tie.Need-refused-requires-3
-refused-requires-3 c κs = search needs
+returns-2 c =
+    let p = c .before .before in
+    c .refused2 .ensures ∙ root-away _ _ _ (p .before .root .ensures) (p .if1 .left) (c .before .if2 .taken)
 
 returns-3 : tie.Need-returns-3
 unfolding store
-returns-3 c = rw (c .refused3 .ensures, ← c .before .before .before .before .before .root .ensures, ne-eqb _ _ (c .before .before .before .before .if1 .left), eq-eqb _ _ (c .before .before .before .if2 .left), sym (c .before .before .is-live .ensures) ∙ not-true _ (c .before .if3 .taken))
-
-root-requires-2 : tie.Need-root-requires-2
-root-requires-2 c κs = search needs
-
-with-field-requires : tie.Need-with-field-requires
-with-field-requires c κs = search needs
-
-with-heap-requires : tie.Need-with-heap-requires
-with-heap-requires c κs = search needs
-
-did-requires : tie.Need-did-requires
-did-requires c κs = search needs
+returns-3 c =
+    let p = c .before .before .before in
+    let dead = sym (c .before .before .is-live .ensures) ∙ not-true _ (c .before .if3 .taken) in
+    c .refused3 .ensures ∙ root-torn _ _ _ (p .before .before .root .ensures) (p .before .if1 .left) (p .if2 .left) dead
 
 returns-4 : tie.Need-returns-4
 unfolding store
-returns-4 c = rw (c .did .ensures, c .before .with-heap .ensures, c .before .before .with-field .ensures, c .before .before .before .root2 .ensures, ← c .before .before .before .before .before .before .before .before .root .ensures, ne-eqb _ _ (c .before .before .before .before .before .before .before .if1 .left), eq-eqb _ _ (c .before .before .before .before .before .before .if2 .left), sym (c .before .before .before .before .before .is-live .ensures) ∙ not-false _ (c .before .before .before .before .if3 .left))
+returns-4 c =
+    let p = c .before .before .before .before .before .before in
+    let live = sym (c .before .before .before .before .before .is-live .ensures) ∙ not-false _ (c .before .before .before .before .if3 .left) in
+    let is = p .before .before .root .ensures in
+    rw (c .did .ensures, c .before .with-heap .ensures, c .before .before .with-field .ensures, c .before .before .before .root2 .ensures, is)
+    (in-reach _ _ _ is (p .before .if1 .left) (p .if2 .left) live)
 
 pub store-spec : {M : Type 1} → statement M
 store-spec =
     tie.close
     (tie.spec
-    root-requires
-    refused-requires
+    (search needs)
+    (search needs)
     returns
-    refused-requires-2
+    (search needs)
     returns-2
-    is-live-requires
-    refused-requires-3
+    (search needs)
+    (search needs)
     returns-3
-    root-requires-2
-    with-field-requires
-    with-heap-requires
-    did-requires
+    (search needs)
+    (search needs)
+    (search needs)
+    (search needs)
     returns-4)

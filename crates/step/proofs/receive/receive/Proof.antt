@@ -5,34 +5,16 @@ use Rattle.step.specs.Receive.{receiveOf}
 use Rattle.step.proofs.receive.receive.Statement.{statement}
 use Rattle.step.proofs.receive.receive.Tie as tie
 
-message-at-requires : tie.Need-message-at-requires
-message-at-requires c κs = search needs
-
-enum-told : tie.Need-enum-told
-enum-told c = search needs
-
-refused-requires : tie.Need-refused-requires
-refused-requires c κs = search needs
-
-enum-known-message : tie.Need-enum-known-message
-enum-known-message c = search needs
-
-receive-reference-requires : tie.Need-receive-reference-requires
-receive-reference-requires c κs = search needs
-
-enum-told-2 : tie.Need-enum-told-2
-enum-told-2 c = search needs
-
-refused-requires-2 : tie.Need-refused-requires-2
-refused-requires-2 c κs = search needs
-
 returns : tie.Need-returns
 unfolding receiveOf
 returns c = simp (sym (c .before .before .before .message-at .ensures) ∙ c .before .enum-told .given .1, c .refused .ensures)
 
 returns-2 : tie.Need-returns-2
 unfolding receiveOf
-returns-2 c = simp (sym (c .before .before .before .before .message-at .ensures) ∙ c .before .before .message .given .1, c .receive-reference .ensures)
+returns-2 c = simp (
+  sym (c .before .before .before .before .message-at .ensures) ∙ c .before .before .message .given .1,
+  c .receive-reference .ensures,
+)
 
 returns-3 : tie.Need-returns-3
 unfolding receiveOf
@@ -42,13 +24,13 @@ pub receive-spec : {M : Type 1} → statement M
 receive-spec =
     tie.close
     (tie.spec
-    message-at-requires
-    enum-told
-    refused-requires
-    enum-known-message
-    receive-reference-requires
-    enum-told-2
-    refused-requires-2
+    (search needs)
+    (search needs)
+    (search needs)
+    (search needs)
+    (search needs)
+    (search needs)
+    (search needs)
     returns
     returns-2
     returns-3)

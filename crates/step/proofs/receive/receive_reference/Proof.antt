@@ -6,54 +6,43 @@ use Rattle.step.specs.Receive.{receiveOf}
 use Rattle.step.proofs.receive.receive_reference.Statement.{statement}
 use Rattle.step.proofs.receive.receive_reference.Tie as tie
 
-root-requires : tie.Need-root-requires
-root-requires c κs = search needs
-
-refused-requires : tie.Need-refused-requires
-refused-requires c κs = search needs
-
 returns : tie.Need-returns
 unfolding receiveOf
 returns c = rw (c .refused .ensures, ← c .before .before .root .ensures, ne-eqb _ _ (c .before .if1 .taken))
 
-entry-at-requires : tie.Need-entry-at-requires
-entry-at-requires c κs = search needs
-
-receive-torn-requires : tie.Need-receive-torn-requires
-receive-torn-requires c κs = search needs
-
-refused-requires-2 : tie.Need-refused-requires-2
-refused-requires-2 c κs = search needs
-
 returns-2 : tie.Need-returns-2
 unfolding receiveOf
-returns-2 c = rw (c .refused2 .ensures, ← c .before .before .before .before .before .root .ensures, eq-eqb _ _ (c .before .before .before .before .if1 .left), sym (c .before .before .receive-torn .ensures) ∙ c .before .if2 .taken)
-
-receipt-requires : tie.Need-receipt-requires
-receipt-requires c κs = search needs
-
-with-received-requires : tie.Need-with-received-requires
-with-received-requires c κs = search needs
-
-did-requires : tie.Need-did-requires
-did-requires c κs = search needs
+returns-2 c = rw (
+  c .refused2 .ensures,
+  ← c .before .before .before .before .before .root .ensures,
+  eq-eqb _ _ (c .before .before .before .before .if1 .left),
+  sym (c .before .before .receive-torn .ensures) ∙ c .before .if2 .taken,
+)
 
 returns-3 : tie.Need-returns-3
 unfolding receiveOf
-returns-3 c = rw (c .did .ensures, c .before .with-received .ensures, c .before .before .receipt .ensures, c .before .before .before .before .before .entry-at .ensures, ← c .before .before .before .before .before .before .before .root .ensures, eq-eqb _ _ (c .before .before .before .before .before .before .if1 .left), sym (c .before .before .before .before .receive-torn .ensures) ∙ c .before .before .before .if2 .left)
+returns-3 c = rw (
+  c .did .ensures,
+  c .before .with-received .ensures,
+  c .before .before .receipt .ensures,
+  c .before .before .before .before .before .entry-at .ensures,
+  ← c .before .before .before .before .before .before .before .root .ensures,
+  eq-eqb _ _ (c .before .before .before .before .before .before .if1 .left),
+  sym (c .before .before .before .before .receive-torn .ensures) ∙ c .before .before .before .if2 .left,
+)
 
 pub receive-reference-spec : {M : Type 1} → statement M
 receive-reference-spec =
     tie.close
     (tie.spec
-    root-requires
-    refused-requires
+    (search needs)
+    (search needs)
     returns
-    entry-at-requires
-    receive-torn-requires
-    refused-requires-2
+    (search needs)
+    (λ c κs. search needs)
+    (search needs)
     returns-2
-    receipt-requires
-    with-received-requires
-    did-requires
+    (search needs)
+    (λ c κs. search needs)
+    (search needs)
     returns-3)

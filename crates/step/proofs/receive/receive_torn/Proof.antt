@@ -4,27 +4,23 @@ use borrow.Author.Needs.{needs}
 use Rattle.step.proofs.receive.receive_torn.Statement.{statement}
 use Rattle.step.proofs.receive.receive_torn.Tie as tie
 
-is-dead-own-requires : tie.Need-is-dead-own-requires
-is-dead-own-requires c κs = search needs
-
 returns : tie.Need-returns
 returns c = rw (sym (c .before .is-dead-own .ensures) ∙ c .if1 .taken)
 
-received-requires : tie.Need-received-requires
-received-requires c κs = search needs
-
-refuses-requires : tie.Need-refuses-requires
-refuses-requires c κs = search needs
-
 returns-2 : tie.Need-returns-2
-returns-2 c = rw (c .refuses .ensures, c .before .received .ensures, c .before .before .before .before .pre, sym (c .before .before .before .is-dead-own .ensures) ∙ c .before .before .if1 .left)
+returns-2 c = rw (
+  c .refuses .ensures,
+  c .before .received .ensures,
+  c .before .before .before .before .pre,
+  sym (c .before .before .before .is-dead-own .ensures) ∙ c .before .before .if1 .left,
+)
 
 pub receive-torn-spec : {M : Type 1} → statement M
 receive-torn-spec =
     tie.close
     (tie.spec
-    is-dead-own-requires
+    (search needs)
     returns
-    received-requires
-    refuses-requires
+    (search needs)
+    (search needs)
     returns-2)

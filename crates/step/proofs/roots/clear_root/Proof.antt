@@ -4,18 +4,9 @@ use Rattle.step.specs.Clear.{clear}
 use Rattle.step.proofs.roots.clear_root.Statement.{statement}
 use Rattle.step.proofs.roots.clear_root.Tie as tie
 
-with-root-requires : tie.Need-with-root-requires
-with-root-requires c κs = search needs
-
-with-heap-requires : tie.Need-with-heap-requires
-with-heap-requires c κs = search needs
-
-did-requires : tie.Need-did-requires
-did-requires c κs = search needs
-
 returns : tie.Need-returns
 unfolding clear
 returns c = simp (c .before .before .with-root .ensures, c .before .with-heap .ensures, c .did .ensures)
 
 pub clear-root-spec : {M : Type 1} → statement M
-clear-root-spec = tie.close (tie.spec with-root-requires with-heap-requires did-requires returns)
+clear-root-spec = tie.close (tie.spec (search needs) (search needs) (search needs) returns)

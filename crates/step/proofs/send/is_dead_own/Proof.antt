@@ -7,11 +7,8 @@ use Rattle.step.proofs.send.is_dead_own.Tie as tie
 returns : tie.Need-returns
 returns c = simp (ne-eqb _ _ (c .if1 .taken))
 
-is-live-requires : tie.Need-is-live-requires
-is-live-requires c κs = search needs
-
 returns-2 : tie.Need-returns-2
 returns-2 c = simp (eq-eqb _ _ (c .before .before .if1 .left), c .is-live .ensures)
 
 pub is-dead-own-spec : {M : Type 1} → statement M
-is-dead-own-spec = tie.close (tie.spec returns is-live-requires returns-2)
+is-dead-own-spec = tie.close (tie.spec returns (search needs) returns-2)

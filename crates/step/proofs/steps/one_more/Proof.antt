@@ -7,14 +7,8 @@ use Rattle.step.proofs.steps.one_more.Tie as tie
 returns : tie.Need-returns
 returns c = rw (ne-eqb _ _ (c .if1 .taken))
 
-add-with-count : tie.Need-add-with-count
-add-with-count c = search needs
-
-with-count-requires : tie.Need-with-count-requires
-with-count-requires c κs = search needs
-
 returns-2 : tie.Need-returns-2
 returns-2 c = rw (c .with-count .ensures, eq-eqb _ _ (c .before .before .if1 .left))
 
 pub one-more-spec : {M : Type 1} → statement M
-one-more-spec = tie.close (tie.spec returns add-with-count with-count-requires returns-2)
+one-more-spec = tie.close (tie.spec returns (search needs) (search needs) returns-2)

@@ -6,55 +6,52 @@ use Rattle.step.specs.Step.{step}
 use Rattle.step.proofs.steps.step.Statement.{statement}
 use Rattle.step.proofs.steps.step.Tie as tie
 
-fits-requires : tie.Need-fits-requires
-fits-requires c κs = search needs
-
-refused-requires : tie.Need-refused-requires
-refused-requires c κs = search needs
-
 returns : tie.Need-returns
 unfolding step
 returns c = rw (c .refused .ensures, sym (c .before .before .fits2 .ensures) ∙ not-true _ (c .before .if1 .taken))
 
-fits-requires-2 : tie.Need-fits-requires-2
-fits-requires-2 c κs = search needs
-
-refused-requires-2 : tie.Need-refused-requires-2
-refused-requires-2 c κs = search needs
-
 returns-2 : tie.Need-returns-2
 unfolding step
-returns-2 c = rw (c .refused2 .ensures, sym (c .before .before .before .before .fits2 .ensures) ∙ not-false _ (c .before .before .before .if1 .left), sym (c .before .before .fits3 .ensures) ∙ not-true _ (c .before .if2 .taken))
-
-refused-requires-3 : tie.Need-refused-requires-3
-refused-requires-3 c κs = search needs
+returns-2 c = rw (
+  c .refused2 .ensures,
+  sym (c .before .before .before .before .fits2 .ensures) ∙ not-false _ (c .before .before .before .if1 .left),
+  sym (c .before .before .fits3 .ensures) ∙ not-true _ (c .before .if2 .taken),
+)
 
 returns-3 : tie.Need-returns-3
 unfolding step
-returns-3 c = rw (c .refused3 .ensures, sym (c .before .before .before .before .before .fits2 .ensures) ∙ not-false _ (c .before .before .before .before .if1 .left), sym (c .before .before .before .fits3 .ensures) ∙ not-false _ (c .before .before .if2 .left), le-ltb _ _ (c .before .if3 .taken))
+returns-3 c = rw (
+  c .refused3 .ensures,
+  sym (c .before .before .before .before .before .fits2 .ensures) ∙ not-false _ (c .before .before .before .before .if1 .left),
+  sym (c .before .before .before .fits3 .ensures) ∙ not-false _ (c .before .before .if2 .left),
+  le-ltb _ _ (c .before .if3 .taken),
+)
 
 by-rule-requires : tie.Need-by-rule-requires
 by-rule-requires c κs = sym (c .before .before .fits3 .ensures) ∙ not-false _ (c .before .if2 .left)
 
-one-more-requires : tie.Need-one-more-requires
-one-more-requires c κs = search needs
-
 returns-4 : tie.Need-returns-4
 unfolding step
-returns-4 c = rw (c .one-more .ensures, c .before .by-rule .ensures, sym (c .before .before .before .before .before .before .fits2 .ensures) ∙ not-false _ (c .before .before .before .before .before .if1 .left), sym (c .before .before .before .before .fits3 .ensures) ∙ not-false _ (c .before .before .before .if2 .left), lt-ltb _ _ (c .before .before .if3 .left))
+returns-4 c = rw (
+  c .one-more .ensures,
+  c .before .by-rule .ensures,
+  sym (c .before .before .before .before .before .before .fits2 .ensures) ∙ not-false _ (c .before .before .before .before .before .if1 .left),
+  sym (c .before .before .before .before .fits3 .ensures) ∙ not-false _ (c .before .before .before .if2 .left),
+  lt-ltb _ _ (c .before .before .if3 .left),
+)
 
 pub step-spec : {M : Type 1} → statement M
 step-spec =
     tie.close
     (tie.spec
-    fits-requires
-    refused-requires
+    (search needs)
+    (search needs)
     returns
-    fits-requires-2
-    refused-requires-2
+    (search needs)
+    (search needs)
     returns-2
-    refused-requires-3
+    (search needs)
     returns-3
     by-rule-requires
-    one-more-requires
+    (search needs)
     returns-4)

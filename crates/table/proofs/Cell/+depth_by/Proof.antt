@@ -44,30 +44,12 @@ depth-by-below t =
 abbrev told : ℕ → depth-by-lts.Claims
 told t = (entry-in-reads.Asked, entry-in-reads.Learnt, depth-by-below t, depth-by.Post, further-reads.Asked, further-reads.Learnt)
 
-depth-by-entry-in-requires : (t : ℕ) → depth-by-lts.Need-entry-in-requires (told t) (depth-by-at t) depth-by.Post
-depth-by-entry-in-requires t c κs = search needs
-
-depth-by-enum-told : (t : ℕ) → depth-by-lts.Need-enum-told (told t) (depth-by-at t) depth-by.Post
-depth-by-enum-told t c = search needs
-
-depth-by-enum-told-2 : (t : ℕ) → depth-by-lts.Need-enum-told-2 (told t) (depth-by-at t) depth-by.Post
-depth-by-enum-told-2 t c = search needs
-
-depth-by-enum-known-entry : (t : ℕ) → depth-by-lts.Need-enum-known-entry (told t) (depth-by-at t) depth-by.Post
-depth-by-enum-known-entry t c = search needs
-
 depth-by-returns : (t : ℕ) → depth-by-lts.Need-returns (told t) (depth-by-at t) depth-by.Post
 depth-by-returns t c = λ table o held.
     let way = c .before .before in
     let a = way .before .before .before .args in
     let there = stands table o (a .p) held (way .before .before .entry-in .ensures) (way .entry .given .1) in
     sym (depthBy-last table o (a .p) (a .left) (way .entry .given .0 .0) (c .if1 .taken) there)
-
-depth-by-sub-depth-by : (t : ℕ) → depth-by-lts.Need-sub-depth-by (told t) (depth-by-at t) depth-by.Post
-depth-by-sub-depth-by t c = search needs
-
-depth-by-depth-by-requires : (t : ℕ) → depth-by-lts.Need-depth-by-requires (told t) (depth-by-at t) depth-by.Post
-depth-by-depth-by-requires t c κs = search needs
 
 depth-by-further-requires : (t : ℕ) → depth-by-lts.Need-further-requires (told t) (depth-by-at t) depth-by.Post
 depth-by-further-requires t c κs = λ d e.
@@ -95,13 +77,13 @@ depth-by-returns-4 t c = λ table o held.
 pub +depth-by-spec : {M : Type 1} → statement M
 +depth-by-spec = close μ-depth-by λ t. depth-by-lts.spec (told t) (depth-by-at t)
     depth-by.Post
-    (depth-by-entry-in-requires t)
-    (depth-by-enum-told t)
-    (depth-by-enum-told-2 t)
-    (depth-by-enum-known-entry t)
+    (search needs)
+    (search needs)
+    (search needs)
+    (search needs)
     (depth-by-returns t)
-    (depth-by-sub-depth-by t)
-    (depth-by-depth-by-requires t)
+    (search needs)
+    (search needs)
     (depth-by-further-requires t)
     (depth-by-returns-2 t)
     (depth-by-returns-3 t)

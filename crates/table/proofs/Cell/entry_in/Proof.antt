@@ -8,14 +8,5 @@ use Rattle.table.proofs.Cell.entry_in.Tie as tie
 returns : tie.Need-returns
 returns c = sym (no-entry (c .before .args .t1) (c .before .good .0) _ (c .if1 .taken))
 
-mul-slot : tie.Need-mul-slot
-mul-slot c = search needs
-
-element-copy-out-slot : tie.Need-element-copy-out-slot
-element-copy-out-slot c = search needs
-
-returns-2 : tie.Need-returns-2
-returns-2 c = search needs
-
 pub entry-in-spec : {M : Type 1} → statement M
-entry-in-spec = tie.close (tie.spec returns mul-slot element-copy-out-slot returns-2)
+entry-in-spec = tie.close (tie.spec returns (search needs) (search needs) (λ c. search needs))

@@ -8,14 +8,5 @@ use Rattle.table.proofs.Cell.with_entry.Tie as tie
 returns : tie.Need-returns
 returns c = sym (no-entry-set (c .before .args .t1) (c .before .good .0) _ _ (c .if1 .taken))
 
-mul-t8 : tie.Need-mul-t8
-mul-t8 c = search needs
-
-element-set-from-self : tie.Need-element-set-from-self
-element-set-from-self c = search needs
-
-returns-2 : tie.Need-returns-2
-returns-2 c = search needs
-
 pub with-entry-spec : {M : Type 1} → statement M
-with-entry-spec = tie.close (tie.spec returns mul-t8 element-set-from-self returns-2)
+with-entry-spec = tie.close (tie.spec returns (search needs) (search needs) (λ c. search needs))

@@ -6,27 +6,9 @@ use Rattle.table.specs.Shape.{fitsMessage}
 use Rattle.table.proofs.Message.fits.Statement.{statement}
 use Rattle.table.proofs.Message.fits.Tie as tie
 
-enum-told : tie.Need-enum-told
-enum-told c = search needs
-
-enum-known-self : tie.Need-enum-known-self
-enum-known-self c = search needs
-
-fits-way-requires : tie.Need-fits-way-requires
-fits-way-requires c κs = search needs
-
-enum-known-self-2 : tie.Need-enum-known-self-2
-enum-known-self-2 c = search needs
-
-fits-way-requires-2 : tie.Need-fits-way-requires-2
-fits-way-requires-2 c κs = search needs
-
 returns : tie.Need-returns
 unfolding fitsMessage
 returns c = simp (c .before .before .before .self2 .given .1, sym (c .before .fits-way2 .ensures) ∙ not-true _ (c .if1 .taken))
-
-fits-requires : tie.Need-fits-requires
-fits-requires c κs = search needs
 
 returns-2 : tie.Need-returns-2
 unfolding fitsMessage
@@ -35,9 +17,6 @@ returns-2 c = simp (
   sym (c .before .before .before .fits-way2 .ensures) ∙ not-false _ (c .before .before .if1 .left),
   sym (c .before .fits2 .ensures) ∙ not-true _ (c .if2 .taken),
 )
-
-fits-requires-2 : tie.Need-fits-requires-2
-fits-requires-2 c κs = search needs
 
 returns-3 : tie.Need-returns-3
 unfolding fitsMessage
@@ -60,15 +39,15 @@ pub fits-spec : {M : Type 1} → statement M
 fits-spec =
     tie.close
     (tie.spec
-    enum-told
-    enum-known-self
-    fits-way-requires
-    enum-known-self-2
-    fits-way-requires-2
+    (search needs)
+    (search needs)
+    (search needs)
+    (search needs)
+    (search needs)
     returns
-    fits-requires
+    (search needs)
     returns-2
-    fits-requires-2
+    (search needs)
     returns-3
     returns-4
     returns-5)

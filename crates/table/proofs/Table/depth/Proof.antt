@@ -15,18 +15,9 @@ returns c =
     let none = no-cell (a .t1) (c .before .good .0) (a .o) (c .if1 .taken) in
     sym (depthBy-absent (a .t1) (a .o) (a .p) STEPS (ap (λ (x : Cell). entryIn x (a .p)) none))
 
-mul-cell : tie.Need-mul-cell
-mul-cell c = search needs
-
-element-copy-out-cell : tie.Need-element-copy-out-cell
-element-copy-out-cell c = search needs
-
-depth-requires : tie.Need-depth-requires
-depth-requires c κs = search needs
-
 returns-2 : tie.Need-returns-2
 returns-2 c = let a = c .before .before .before .args in c .depth .ensures (a .t1) (a .o) refl
 
 pub depth-spec : {M : Type 1} → statement M
 depth-spec =
-    tie.close (tie.spec returns mul-cell element-copy-out-cell depth-requires returns-2)
+    tie.close (tie.spec returns (search needs) (search needs) (search needs) returns-2)

@@ -14,15 +14,6 @@ returns-2 : tie.Need-returns-2
 unfolding depthReport
 returns-2 c = simp (lt-ltb _ _ (c .before .if1 .left), le-ltb _ _ (c .if2 .taken))
 
-depth-requires : tie.Need-depth-requires
-depth-requires c κs = search needs
-
-number-requires : tie.Need-number-requires
-number-requires c κs = search needs
-
-fits-requires : tie.Need-fits-requires
-fits-requires c κs = search needs
-
 returns-3 : tie.Need-returns-3
 unfolding depthReport
 returns-3 c = simp (
@@ -44,4 +35,4 @@ returns-4 c = simp (
 pub depth-report-spec : {M : Type 1} → statement M
 depth-report-spec =
     tie.close
-    (tie.spec returns returns-2 depth-requires number-requires fits-requires returns-3 returns-4)
+    (tie.spec returns returns-2 (search needs) (search needs) (search needs) returns-3 returns-4)
