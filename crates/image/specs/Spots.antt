@@ -9,7 +9,7 @@ use native.Mathlib.Omega.{arith}
 use lib.Dec.{ltb, leb, eqb}
 use lib.ListN.{length, getD}
 use lib.Seq.{getD-set-same, getD-set-other}
-use borrow.Author.Tests.{ltb-true, leb-true, eq-eqb}
+use borrow.Author.Tests.{ltb-true, leb-true}
 use Rattle.terms.specs.Bytes.{twosComplement, signed}
 use Rattle.terms.specs.Choose.{_and_}
 use Rattle.terms.specs.ChooseLaws.{and-passes}
@@ -18,20 +18,19 @@ use Rattle.terms.specs.Limits.{NODES, OBJECTS, PLACES, owner}
 use Rattle.entry.specs.declared.Entry.{Entry}
 use Rattle.entry.specs.declared.Entry.the-variants.{Absent, AtOwner, Elsewhere}
 use Rattle.entry.specs.Fits.{fitsEntry}
-use Rattle.heap.specs.Heap.{fitsObject, fitsRoots}
-use Rattle.table.specs.declared.Cell.{Cell}
-use Rattle.table.specs.declared.Slot.{Slot}
-use Rattle.table.specs.declared.Place.{Place}
-use Rattle.table.specs.declared.Message.the-variants as m
+use Rattle.entry.specs.FitsLaws.{away}
 use Rattle.table.specs.declared.Table.{Table}
 use Rattle.table.specs.Formed.{Formed}
-use Rattle.table.specs.Shape.{fitsMessage}
-use Rattle.table.specs.Table.{cellAt, cellWith, entryIn, entryAt, messageAt, withEntry}
+use Rattle.table.specs.Good.{Good, good-formed, good-shaped}
+use Rattle.table.specs.ShapeLaws.{owner-number}
+use Rattle.table.specs.Table.{entryAt, messageAt}
+use Rattle.table.specs.TableLaws.{entry-other, entry-there, message-elsewhere, message-there}
 use Rattle.image.specs.declared.RecordKind.{RecordKind}
 use Rattle.image.specs.declared.RecordKind.the-variants.{Count, Live, NodeRoots, Directory, Remote, Reference, Decrement, End, Unknown}
 use Rattle.image.specs.BytesLaws.{Fit, twosComplement-signed}
-use Rattle.image.specs.Content.{number, liveObject, rootsOfNode, directoryEntry, remoteEntry, referenceMessage, decrementMessage, fitsRecord, withRecord}
-use Rattle.image.specs.ContentLaws.{Shaped, list-back, remote-away}
+use Rattle.image.specs.Content.{number, liveObject, rootsOfNode, directoryEntry, remoteEntry, referenceMessage, decrementMessage}
+use Rattle.image.specs.Content.{fitsRecord, withRecord}
+use Rattle.image.specs.ContentLaws.{list-back}
 use Rattle.image.specs.Order.{position, positionOf}
 use Rattle.image.specs.Records.{Record, row, isUnknown, isEnd, widthsOf}
 use Rattle.image.specs.Stored.{liveRecord, nodeRecord}
@@ -83,22 +82,20 @@ fit-length [] (n ∷ ns) fit = absurd fit
 fit-length (w ∷ ws) [] fit = absurd fit
 fit-length (w ∷ ws) (n ∷ ns) fit = ap suc (fit-length ws ns (fit .1))
 
+-- a number below its limit, and what else is tested
+pub below : (n limit : ℕ) (rest : Bool) → (ltb n limit and rest) ≡ true → (n < limit) × (rest ≡ true)
+below n limit rest fits = let p = and-passes (ltb n limit) rest .0 fits in (ltb-true n limit (p .0), p .1)
+
 -- the first number of a record that fits is below its limit
 first-small : (k : RecordKind) (ns : List ℕ) → isEnd k ≡ false → isUnknown k ≡ false → fitsRecord k ns ≡ true → (k ≡ Count → ⊥) → number ns 0 < 64
 unfolding fitsRecord
 first-small Count ns e u fits nc = absurd (nc refl)
-first-small Live ns e u fits nc = ltb-true (number ns 0) OBJECTS (and-passes (ltb (number ns 0) OBJECTS) (fitsObject (liveObject ns)) .0 fits .0)
-first-small NodeRoots ns e u fits nc = omega (arith, ltb-true (number ns 0) NODES (and-passes (ltb (number ns 0) NODES) (fitsRoots (rootsOfNode ns)) .0 fits .0))
-first-small Directory ns e u fits nc =
-    ltb-true (number ns 0) OBJECTS (and-passes (ltb (number ns 0) OBJECTS) (fitsEntry (owner (number ns 0)) (number ns 0) (directoryEntry ns)) .0 fits .0)
-first-small Remote ns e u fits nc =
-    omega (
-      arith,
-      ltb-true (number ns 0) NODES (and-passes (ltb (number ns 0) NODES)
-          (ltb (number ns 1) OBJECTS and leb (number ns 4) 1 and fitsEntry (number ns 0) (number ns 1) (remoteEntry ns)) .0 fits .0),
-    )
-first-small Reference ns e u fits nc = ltb-true (number ns 0) PLACES (and-passes (ltb (number ns 0) PLACES) (fitsMessage (referenceMessage ns)) .0 fits .0)
-first-small Decrement ns e u fits nc = ltb-true (number ns 0) PLACES (and-passes (ltb (number ns 0) PLACES) (fitsMessage (decrementMessage ns)) .0 fits .0)
+first-small Live ns e u fits nc = below (number ns 0) OBJECTS _ fits .0
+first-small NodeRoots ns e u fits nc = omega (arith, below (number ns 0) NODES _ fits .0)
+first-small Directory ns e u fits nc = below (number ns 0) OBJECTS _ fits .0
+first-small Remote ns e u fits nc = omega (arith, below (number ns 0) NODES _ fits .0)
+first-small Reference ns e u fits nc = below (number ns 0) PLACES _ fits .0
+first-small Decrement ns e u fits nc = below (number ns 0) PLACES _ fits .0
 first-small End ns e u fits nc = absurd (false≢true (sym e))
 first-small Unknown ns e u fits nc = absurd (false≢true (sym u))
 
@@ -112,42 +109,16 @@ pub record RemoteTests (ns : List ℕ) : Type 0 where
 pub remote-tests : (ns : List ℕ) → fitsRecord Remote ns ≡ true → RemoteTests ns
 unfolding fitsRecord
 remote-tests ns fits =
-    let a = and-passes (ltb (number ns 0) NODES) (ltb (number ns 1) OBJECTS and leb (number ns 4) 1 and fitsEntry (number ns 0) (number ns 1) (remoteEntry ns)) .0 fits in
-    let b = and-passes (ltb (number ns 1) OBJECTS) (leb (number ns 4) 1 and fitsEntry (number ns 0) (number ns 1) (remoteEntry ns)) .0 (a .1) in
-    let c = and-passes (leb (number ns 4) 1) (fitsEntry (number ns 0) (number ns 1) (remoteEntry ns)) .0 (b .1) in
-    record {
-      node = ltb-true (number ns 0) NODES (a .0);
-      object = ltb-true (number ns 1) OBJECTS (b .0);
-      presence = leb-true (number ns 4) 1 (c .0);
-      entry = c .1;
-    }
-
--- ---- entries
-
-module _ (t : Table) (formed : Formed t) (p o : ℕ) (e : Entry) (lo : o < OBJECTS) where
-  -- another entry stays
-  pub entry-other : (q a : ℕ) → (a ≡ o → q ≡ p → ⊥) → entryAt (withEntry t p o e) q a ≡ entryAt t q a
-  entry-other q a ne = elim (ℕ-discrete a o) [
-    | yes ea ↦ rw (ea, getD-set-same (t .cells) o (cellWith (cellAt t o) p e) (record { at = [] }) (omega (arith, formed .cells)))
-        (ap (λ (s : Slot). s .held) (getD-set-other (cellAt t o .at) p q (record { held = e }) (record { held = Absent }) (ne ea)))
-    | no na ↦ ap (λ (c : Cell). entryIn c q) (getD-set-other (t .cells) o a (cellWith (cellAt t o) p e) (record { at = [] }) na)
-  ]
-
-  -- the entry is there
-  pub entry-same : p < NODES → entryAt (withEntry t p o e) p o ≡ e
-  entry-same lp =
-      rw (getD-set-same (t .cells) o (cellWith (cellAt t o) p e) (record { at = [] }) (omega (arith, formed .cells)))
-      (ap (λ (s : Slot). s .held) (getD-set-same (cellAt t o .at) p (record { held = e }) (record { held = Absent }) (omega (arith, formed .entries o lo))))
+    let a = below (number ns 0) NODES _ fits in
+    let b = below (number ns 1) OBJECTS _ (a .1) in
+    let c = and-passes (leb (number ns 4) 1) _ .0 (b .1) in
+    record { node = a .0; object = b .0; presence = leb-true (number ns 4) 1 (c .0); entry = c .1 }
 
 -- no remote entry stands at the owner
 pub remote-none : (p o : ℕ) (e : Entry) → p ≡ owner o → fitsEntry p o e ≡ true → remoteRecord p o e ≡ []
 remote-none p o Absent at fits = refl
 remote-none p o (AtOwner d) at fits = refl
-remote-none p o (Elsewhere r) at fits = absurd (false≢true (rw (eq-eqb p (owner o) at) at (remote-away r p o fits)))
-
--- the record of a place as it stands
-abbrev placeRow : ℕ → Place → List Record
-placeRow s x = messageRecord s (x .held)
+remote-none p o (Elsewhere r) at fits = absurd (away p o r fits .elsewhere at)
 
 -- a record that the reader takes: not the end, of a known kind, its numbers fitting and allowed
 pub record Takes (k : RecordKind) (ns : List ℕ) : Type 0 where
@@ -158,7 +129,7 @@ pub record Takes (k : RecordKind) (ns : List ℕ) : Type 0 where
 
 -- ---- a record read leaves the other spots as they were
 
-module _ (t : Table) (formed : Formed t) (shape : Shaped t) (ns : List ℕ) where
+module _ (t : Table) (good : Good t) (ns : List ℕ) where
   other-count : (s : Spot) → (spotPosition s ≡ positionOf Count ns → ⊥) → recordAt (withRecord t Count ns) s ≡ recordAt t s
   unfolding withRecord
   other-count count ne = absurd (ne refl)
@@ -172,7 +143,8 @@ module _ (t : Table) (formed : Formed t) (shape : Shaped t) (ns : List ℕ) wher
   unfolding withRecord
   other-live count ne = refl
   other-live (object o) ne =
-      ap (liveRecord o) (getD-set-other (t .heap .objects) (number ns 0) o (liveObject ns) (record { live = false; fields = [] }) (λ q. ne (omega arith)))
+      ap (liveRecord o)
+      (getD-set-other (t .heap .objects) (number ns 0) o (liveObject ns) (record { live = false; fields = [] }) (λ q. ne (omega arith)))
   other-live (roots p) ne = refl
   other-live (directory o) ne = refl
   other-live (remote p o) ne = refl
@@ -188,20 +160,21 @@ module _ (t : Table) (formed : Formed t) (shape : Shaped t) (ns : List ℕ) wher
   other-roots (remote p o) ne = refl
   other-roots (message s) ne = refl
 
-  other-directory : number ns 0 < OBJECTS → (s : Spot) → (spotPosition s ≡ positionOf Directory ns → ⊥) → recordAt (withRecord t Directory ns) s ≡ recordAt t s
+  other-directory : number ns 0 < OBJECTS → (s : Spot) → (spotPosition s ≡ positionOf Directory ns → ⊥)
+      → recordAt (withRecord t Directory ns) s ≡ recordAt t s
   unfolding withRecord
   other-directory lt count ne = refl
   other-directory lt (object o) ne = refl
   other-directory lt (roots p) ne = refl
   other-directory lt (directory o) ne =
-      ap (directoryRecord o) (entry-other t formed (owner (number ns 0)) (number ns 0) (directoryEntry ns) lt (owner o) o (λ eo ep. ne (omega arith)))
-  other-directory lt (remote p o) ne = elim (ℕ-discrete o (number ns 0)) [
-    | yes eo ↦ rw eo (elim (ℕ-discrete p (owner (number ns 0))) [
-      | yes ep ↦ rw ep (ap (remoteRecord (owner a) a) (entry-same t formed (owner a) a (directoryEntry ns) lt (omega arith))
-          ∙ sym (remote-none (owner a) a (entryAt t (owner a) a) refl (shape .entries (owner a) a (omega arith) lt)))
-      | no np ↦ ap (remoteRecord p a) (entry-other t formed (owner a) a (directoryEntry ns) lt p a (λ ea ep. np ep))
+      ap (directoryRecord o) (entry-other t (owner (number ns 0)) (number ns 0) (directoryEntry ns) (owner o) o (λ eo ep. ne (omega arith)))
+  other-directory lt (remote p o) ne = elim (ℕ-discrete o a) [
+    | yes eo ↦ rw eo (elim (ℕ-discrete p (owner a)) [
+      | yes ep ↦ rw ep (ap (remoteRecord (owner a) a) (entry-there t (owner a) a (directoryEntry ns) (good-formed good) lt (owner-number lt))
+          ∙ sym (remote-none (owner a) a (entryAt t (owner a) a) refl (good-shaped good .entries (owner a) a (owner-number lt) lt)))
+      | no np ↦ ap (remoteRecord p a) (entry-other t (owner a) a (directoryEntry ns) p a (λ ea ep. np ep))
     ])
-    | no no′ ↦ ap (remoteRecord p o) (entry-other t formed (owner a) a (directoryEntry ns) lt p o (λ eo ep. no′ eo))
+    | no no′ ↦ ap (remoteRecord p o) (entry-other t (owner a) a (directoryEntry ns) p o (λ eo ep. no′ eo))
   ]
     where
       a : ℕ
@@ -214,10 +187,10 @@ module _ (t : Table) (formed : Formed t) (shape : Shaped t) (ns : List ℕ) wher
   other-remote tests (object o) ne = refl
   other-remote tests (roots p) ne = refl
   other-remote tests (directory o) ne =
-      ap (directoryRecord o) (entry-other t formed (number ns 0) (number ns 1) (remoteEntry ns) (tests .object) (owner o) o
-      (λ eo ep. false≢true (rw (eq-eqb (number ns 0) (owner (number ns 1)) (sym ep ∙ ap owner eo)) at (remote-away _ (number ns 0) (number ns 1) (tests .entry)))))
+      ap (directoryRecord o) (entry-other t (number ns 0) (number ns 1) (remoteEntry ns) (owner o) o
+      (λ eo ep. away (number ns 0) (number ns 1) _ (tests .entry) .elsewhere (sym ep ∙ ap owner eo)))
   other-remote tests (remote p o) ne =
-      ap (remoteRecord p o) (entry-other t formed (number ns 0) (number ns 1) (remoteEntry ns) (tests .object) p o (λ eo ep. ne (omega arith)))
+      ap (remoteRecord p o) (entry-other t (number ns 0) (number ns 1) (remoteEntry ns) p o (λ eo ep. ne (omega arith)))
   other-remote tests (message s) ne = refl
 
   other-reference : (s : Spot) → (spotPosition s ≡ positionOf Reference ns → ⊥) → recordAt (withRecord t Reference ns) s ≡ recordAt t s
@@ -228,7 +201,7 @@ module _ (t : Table) (formed : Formed t) (shape : Shaped t) (ns : List ℕ) wher
   other-reference (directory o) ne = refl
   other-reference (remote p o) ne = refl
   other-reference (message s) ne =
-      ap (placeRow s) (getD-set-other (t .air) (number ns 0) s (record { held = referenceMessage ns }) (record { held = m.Empty }) (λ q. ne (omega arith)))
+      ap (messageRecord s) (message-elsewhere t (number ns 0) (referenceMessage ns) s (λ q. ne (omega arith)))
 
   other-decrement : (s : Spot) → (spotPosition s ≡ positionOf Decrement ns → ⊥) → recordAt (withRecord t Decrement ns) s ≡ recordAt t s
   unfolding withRecord
@@ -238,7 +211,7 @@ module _ (t : Table) (formed : Formed t) (shape : Shaped t) (ns : List ℕ) wher
   other-decrement (directory o) ne = refl
   other-decrement (remote p o) ne = refl
   other-decrement (message s) ne =
-      ap (placeRow s) (getD-set-other (t .air) (number ns 0) s (record { held = decrementMessage ns }) (record { held = m.Empty }) (λ q. ne (omega arith)))
+      ap (messageRecord s) (message-elsewhere t (number ns 0) (decrementMessage ns) s (λ q. ne (omega arith)))
 
 -- the record is the event count's
 abbrev pub isCount : RecordKind → Bool
@@ -256,17 +229,17 @@ isCount Unknown = false
 pub small : (k : RecordKind) (ns : List ℕ) → Takes k ns → isCount k ≡ false → number ns 0 < 64
 small k ns takes nc = first-small k ns (takes .onward) (takes .known) (takes .allowed) (λ e. false≢true (sym nc ∙ ap isCount e))
 
-pub spot-other : (t : Table) → Formed t → Shaped t → (k : RecordKind) (ns : List ℕ) → Takes k ns
+pub spot-other : (t : Table) → Good t → (k : RecordKind) (ns : List ℕ) → Takes k ns
     → (s : Spot) → (spotPosition s ≡ positionOf k ns → ⊥) → recordAt (withRecord t k ns) s ≡ recordAt t s
-spot-other t formed shape Count ns takes = other-count t formed shape ns
-spot-other t formed shape Live ns takes = other-live t formed shape ns
-spot-other t formed shape NodeRoots ns takes = other-roots t formed shape ns
-spot-other t formed shape Directory ns takes = other-directory t formed shape ns (small Directory ns takes refl)
-spot-other t formed shape Remote ns takes = other-remote t formed shape ns (remote-tests ns (takes .allowed))
-spot-other t formed shape Reference ns takes = other-reference t formed shape ns
-spot-other t formed shape Decrement ns takes = other-decrement t formed shape ns
-spot-other t formed shape End ns takes = absurd (false≢true (sym (takes .onward)))
-spot-other t formed shape Unknown ns takes = absurd (false≢true (sym (takes .known)))
+spot-other t good Count ns takes = other-count t good ns
+spot-other t good Live ns takes = other-live t good ns
+spot-other t good NodeRoots ns takes = other-roots t good ns
+spot-other t good Directory ns takes = other-directory t good ns (small Directory ns takes refl)
+spot-other t good Remote ns takes = other-remote t good ns (remote-tests ns (takes .allowed))
+spot-other t good Reference ns takes = other-reference t good ns
+spot-other t good Decrement ns takes = other-decrement t good ns
+spot-other t good End ns takes = absurd (false≢true (sym (takes .onward)))
+spot-other t good Unknown ns takes = absurd (false≢true (sym (takes .known)))
 
 -- ---- a record read stands at its spot
 
@@ -301,35 +274,37 @@ module _ (t : Table) (formed : Formed t) where
   here-live : (a b c d e : ℕ) → a < OBJECTS → Stands Live (a ∷ b ∷ c ∷ d ∷ e ∷ [])
   unfolding withRecord
   here-live a b c d e lt =
-      ap (liveRecord a) (getD-set-same (t .heap .objects) a (liveObject (a ∷ b ∷ c ∷ d ∷ e ∷ [])) (record { live = false; fields = [] }) (omega (arith, formed .objects)))
+      let x = liveObject (a ∷ b ∷ c ∷ d ∷ e ∷ []) in
+      ap (liveRecord a) (getD-set-same (t .heap .objects) a x (record { live = false; fields = [] }) (omega (arith, formed .objects)))
 
   here-roots : (a b c d e f g h i : ℕ) → a < NODES → Stands NodeRoots (a ∷ b ∷ c ∷ d ∷ e ∷ f ∷ g ∷ h ∷ i ∷ [])
   unfolding withRecord
   here-roots a b c d e f g h i lt =
-      ap (nodeRecord a) (getD-set-same (t .heap .roots) a (rootsOfNode (a ∷ b ∷ c ∷ d ∷ e ∷ f ∷ g ∷ h ∷ i ∷ [])) (record { at = [] }) (omega (arith, formed .nodes)))
+      let x = rootsOfNode (a ∷ b ∷ c ∷ d ∷ e ∷ f ∷ g ∷ h ∷ i ∷ []) in
+      ap (nodeRecord a) (getD-set-same (t .heap .roots) a x (record { at = [] }) (omega (arith, formed .nodes)))
 
   here-directory : (a b c : ℕ) → a < OBJECTS → c < 256 ^ 4 → Stands Directory (a ∷ b ∷ c ∷ [])
   unfolding withRecord
   here-directory a b c lt fit =
-      ap (directoryRecord a) (entry-same t formed (owner a) a (directoryEntry (a ∷ b ∷ c ∷ [])) lt (omega arith))
+      ap (directoryRecord a) (entry-there t (owner a) a (directoryEntry (a ∷ b ∷ c ∷ [])) formed lt (owner-number lt))
       ∙ ap (λ (n : ℕ). row Directory (a ∷ b ∷ n ∷ []) ∷ []) (twosComplement-signed c fit)
 
   here-remote : (a b c d e f g : ℕ) → a < NODES → b < OBJECTS → e ≤ 1 → f < 256 ^ 4 → Stands Remote (a ∷ b ∷ c ∷ d ∷ e ∷ f ∷ g ∷ [])
   unfolding withRecord
   here-remote a b c d e f g la lb le fit =
-      ap (remoteRecord a b) (entry-same t formed a b (remoteEntry (a ∷ b ∷ c ∷ d ∷ e ∷ f ∷ g ∷ [])) lb la)
+      ap (remoteRecord a b) (entry-there t a b (remoteEntry (a ∷ b ∷ c ∷ d ∷ e ∷ f ∷ g ∷ [])) formed lb la)
       ∙ ap (λ (n : ℕ). row Remote (a ∷ b ∷ c ∷ d ∷ n ∷ twosComplement (signed f) ∷ g ∷ []) ∷ []) (presence-back e le)
       ∙ ap (λ (n : ℕ). row Remote (a ∷ b ∷ c ∷ d ∷ e ∷ n ∷ g ∷ []) ∷ []) (twosComplement-signed f fit)
 
   here-reference : (a b c d : ℕ) → a < PLACES → Stands Reference (a ∷ b ∷ c ∷ d ∷ [])
   unfolding withRecord
   here-reference a b c d lt =
-      ap (placeRow a) (getD-set-same (t .air) a (record { held = referenceMessage (a ∷ b ∷ c ∷ d ∷ []) }) (record { held = m.Empty }) (omega (arith, formed .places)))
+      ap (messageRecord a) (message-there t a (referenceMessage (a ∷ b ∷ c ∷ d ∷ [])) (formed .places) lt)
 
   here-decrement : (a b c d e f : ℕ) → a < PLACES → e < 256 ^ 4 → Stands Decrement (a ∷ b ∷ c ∷ d ∷ e ∷ f ∷ [])
   unfolding withRecord
   here-decrement a b c d e f lt fit =
-      ap (placeRow a) (getD-set-same (t .air) a (record { held = decrementMessage (a ∷ b ∷ c ∷ d ∷ e ∷ f ∷ []) }) (record { held = m.Empty }) (omega (arith, formed .places)))
+      ap (messageRecord a) (message-there t a (decrementMessage (a ∷ b ∷ c ∷ d ∷ e ∷ f ∷ [])) (formed .places) lt)
       ∙ ap (λ (n : ℕ). row Decrement (a ∷ b ∷ c ∷ d ∷ n ∷ f ∷ []) ∷ []) (twosComplement-signed e fit)
 
   pub spot-same : (k : RecordKind) (ns : List ℕ) → Takes k ns → Stands k ns
@@ -338,11 +313,11 @@ module _ (t : Table) (formed : Formed t) where
   spot-same Live ns takes =
       subst (Stands Live) (unfolded Live ns 5 (takes .fit) refl)
       (here-live (number ns 0) (number ns 1) (number ns 2) (number ns 3) (number ns 4)
-      (ltb-true (number ns 0) OBJECTS (and-passes (ltb (number ns 0) OBJECTS) (fitsObject (liveObject ns)) .0 (takes .allowed) .0)))
+      (below (number ns 0) OBJECTS _ (takes .allowed) .0))
   spot-same NodeRoots ns takes =
       subst (Stands NodeRoots) (unfolded NodeRoots ns 9 (takes .fit) refl)
       (here-roots (number ns 0) (number ns 1) (number ns 2) (number ns 3) (number ns 4) (number ns 5) (number ns 6) (number ns 7) (number ns 8)
-      (ltb-true (number ns 0) NODES (and-passes (ltb (number ns 0) NODES) (fitsRoots (rootsOfNode ns)) .0 (takes .allowed) .0)))
+      (below (number ns 0) NODES _ (takes .allowed) .0))
   spot-same Directory ns takes =
       subst (Stands Directory) (unfolded Directory ns 3 (takes .fit) refl)
       (here-directory (number ns 0) (number ns 1) (number ns 2) (small Directory ns takes refl) (nth-fits Directory ns 2 (takes .fit) refl))
@@ -354,11 +329,11 @@ module _ (t : Table) (formed : Formed t) where
   spot-same Reference ns takes =
       subst (Stands Reference) (unfolded Reference ns 4 (takes .fit) refl)
       (here-reference (number ns 0) (number ns 1) (number ns 2) (number ns 3)
-      (ltb-true (number ns 0) PLACES (and-passes (ltb (number ns 0) PLACES) (fitsMessage (referenceMessage ns)) .0 (takes .allowed) .0)))
+      (below (number ns 0) PLACES _ (takes .allowed) .0))
   spot-same Decrement ns takes =
       subst (Stands Decrement) (unfolded Decrement ns 6 (takes .fit) refl)
       (here-decrement (number ns 0) (number ns 1) (number ns 2) (number ns 3) (number ns 4) (number ns 5)
-      (ltb-true (number ns 0) PLACES (and-passes (ltb (number ns 0) PLACES) (fitsMessage (decrementMessage ns)) .0 (takes .allowed) .0))
+      (below (number ns 0) PLACES _ (takes .allowed) .0)
       (nth-fits Decrement ns 4 (takes .fit) refl))
   spot-same End ns takes = absurd (false≢true (sym (takes .onward)))
   spot-same Unknown ns takes = absurd (false≢true (sym (takes .known)))

@@ -18,13 +18,12 @@ use Rattle.heap.specs.declared.Object.{Object}
 use Rattle.heap.specs.declared.Roots.{Roots}
 use Rattle.heap.specs.Heap.{rootsAt, withObject, withRoot}
 use Rattle.table.specs.declared.Message.{Message}
-use Rattle.table.specs.declared.Message.the-variants as m
-use Rattle.table.specs.declared.Place.{Place}
 use Rattle.table.specs.declared.Table.{Table}
 use Rattle.table.specs.Formed.{Formed}
 use Rattle.table.specs.Table.{entryAt, withCount, withEntry, withHeap, withMessage}
+use Rattle.table.specs.TableLaws.{entry-other, entry-there, message-elsewhere, message-there}
 use Rattle.image.specs.Records.{Record}
-use Rattle.image.specs.Spots.{Spot, count, object, roots, directory, remote, message, spotPosition, recordAt, remote-none, entry-same, entry-other}
+use Rattle.image.specs.Spots.{Spot, count, object, roots, directory, remote, message, spotPosition, recordAt, remote-none}
 use Rattle.image.specs.Stored.{liveRecord, nodeRecord}
 use Rattle.image.specs.Writer.{directoryRecord, remoteRecord, messageRecord}
 use Rattle.splice.specs.Patched.{OnlyAt}
@@ -76,10 +75,6 @@ module _ (t : Table) (p r x : ℕ) where
 
 -- ---- a message
 
--- the record of a place
-abbrev placeRecord : ℕ → Place → List Record
-placeRecord s x = messageRecord s (x .held)
-
 module _ (t : Table) (s : ℕ) (x : Message) where
   pub message-only : OnlyAt (message s) t (withMessage t s x)
   message-only count ne = refl
@@ -88,10 +83,10 @@ module _ (t : Table) (s : ℕ) (x : Message) where
   message-only (directory a) ne = refl
   message-only (remote q a) ne = refl
   message-only (message i) ne =
-      ap (placeRecord i) (getD-set-other (t .air) s i (record { held = x }) (record { held = m.Empty }) (λ e. ne (omega arith)))
+      ap (messageRecord i) (message-elsewhere t s x i (λ e. ne (omega arith)))
 
   pub message-here : length (t .air) ≡ PLACES → s < PLACES → recordAt (withMessage t s x) (message s) ≡ messageRecord s x
-  message-here len lt = ap (placeRecord s) (getD-set-same (t .air) s (record { held = x }) (record { held = m.Empty }) (omega arith))
+  message-here len lt = ap (messageRecord s) (message-there t s x len lt)
 
 -- ---- an entry
 
@@ -134,7 +129,7 @@ entry-record t p o = elim (ℕ-discrete p (owner o)) [ yes e ↦ rw (eq-eqb p (o
 
 module _ (t : Table) (formed : Formed t) (p o : ℕ) (lp : p < NODES) (lo : o < OBJECTS) (e : Entry) where
   pub entry-here : recordAt (withEntry t p o e) (entrySpot p o) ≡ entryRecord p o e
-  entry-here = entry-record (withEntry t p o e) p o ∙ ap (entryRecord p o) (entry-same t formed p o e lo lp)
+  entry-here = entry-record (withEntry t p o e) p o ∙ ap (entryRecord p o) (entry-there t p o e formed lo lp)
 
   module _ (was : Proper p o (entryAt t p o)) (is : Proper p o e) where
     -- at the owner
@@ -142,13 +137,13 @@ module _ (t : Table) (formed : Formed t) (p o : ℕ) (lp : p < NODES) (lo : o < 
     directory-only at count ne = refl
     directory-only at (object a) ne = refl
     directory-only at (roots q) ne = refl
-    directory-only at (directory a) ne = ap (directoryRecord a) (entry-other t formed p o e lo (owner a) a (λ ea ep. ne (omega arith)))
+    directory-only at (directory a) ne = ap (directoryRecord a) (entry-other t p o e (owner a) a (λ ea ep. ne (omega arith)))
     directory-only at (remote q a) ne = elim (ℕ-discrete a o) [
       | yes ea ↦ rw ea (elim (ℕ-discrete q p) [
-        | yes eq ↦ rw eq (ap (remoteRecord p o) (entry-same t formed p o e lo lp) ∙ is at ∙ sym (was at))
-        | no nq ↦ ap (remoteRecord q o) (entry-other t formed p o e lo q o (λ ea eq. nq eq))
+        | yes eq ↦ rw eq (ap (remoteRecord p o) (entry-there t p o e formed lo lp) ∙ is at ∙ sym (was at))
+        | no nq ↦ ap (remoteRecord q o) (entry-other t p o e q o (λ ea eq. nq eq))
       ])
-      | no na ↦ ap (remoteRecord q a) (entry-other t formed p o e lo q a (λ ea eq. na ea))
+      | no na ↦ ap (remoteRecord q a) (entry-other t p o e q a (λ ea eq. na ea))
     ]
     directory-only at (message s) ne = refl
 
@@ -157,8 +152,8 @@ module _ (t : Table) (formed : Formed t) (p o : ℕ) (lp : p < NODES) (lo : o < 
     remote-only away count ne = refl
     remote-only away (object a) ne = refl
     remote-only away (roots q) ne = refl
-    remote-only away (directory a) ne = ap (directoryRecord a) (entry-other t formed p o e lo (owner a) a (λ ea ep. away (sym ep ∙ ap owner ea)))
-    remote-only away (remote q a) ne = ap (remoteRecord q a) (entry-other t formed p o e lo q a (λ ea eq. ne (omega arith)))
+    remote-only away (directory a) ne = ap (directoryRecord a) (entry-other t p o e (owner a) a (λ ea ep. away (sym ep ∙ ap owner ea)))
+    remote-only away (remote q a) ne = ap (remoteRecord q a) (entry-other t p o e q a (λ ea eq. ne (omega arith)))
     remote-only away (message s) ne = refl
 
     pub entry-only : OnlyAt (entrySpot p o) t (withEntry t p o e)
