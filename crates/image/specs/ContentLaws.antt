@@ -44,13 +44,18 @@ module _ {A : Type 0} (d : A) where
   list-back n xs len = sym (list-is n (λ k. getD xs k d) d xs len (λ k lt. refl))
 
 -- the four fields
-four-back : (xs : List ℕ) → length xs ≡ 4 → getD xs 0 0 ∷ getD xs 1 0 ∷ getD xs 2 0 ∷ getD xs 3 0 ∷ [] ≡ xs
+abbrev fourOf : List ℕ → List ℕ
+fourOf xs = getD xs 0 0 ∷ getD xs 1 0 ∷ getD xs 2 0 ∷ getD xs 3 0 ∷ []
+
+four-back : (xs : List ℕ) → length xs ≡ 4 → fourOf xs ≡ xs
 unfolding listFrom
 four-back xs len = list-back 0 4 xs len
 
 -- the eight roots
-eight-back : (xs : List ℕ) → length xs ≡ 8
-    → getD xs 0 0 ∷ getD xs 1 0 ∷ getD xs 2 0 ∷ getD xs 3 0 ∷ getD xs 4 0 ∷ getD xs 5 0 ∷ getD xs 6 0 ∷ getD xs 7 0 ∷ [] ≡ xs
+abbrev eightOf : List ℕ → List ℕ
+eightOf xs = getD xs 0 0 ∷ getD xs 1 0 ∷ getD xs 2 0 ∷ getD xs 3 0 ∷ getD xs 4 0 ∷ getD xs 5 0 ∷ getD xs 6 0 ∷ getD xs 7 0 ∷ []
+
+eight-back : (xs : List ℕ) → length xs ≡ 8 → eightOf xs ≡ xs
 unfolding listFrom
 eight-back xs len = list-back 0 8 xs len
 
@@ -64,6 +69,10 @@ name-small x e =
     ⊎-elim (λ low. omega (arith, ltb-true x OBJECTS low)) (λ none. omega (arith, is-none x none)) (or-passes (ltb x OBJECTS) (isNone x) .0 e)
 
 -- ---- objects
+
+-- an object of its parts
+abbrev objectOf : Bool → List ℕ → Object
+objectOf live fields = record { live = live; fields = fields }
 
 module _ (x : Object) (fits : fitsObject x ≡ true) where
   -- each field passes its test
@@ -86,30 +95,19 @@ module _ (x : Object) (fits : fitsObject x ≡ true) where
         let empty = idle-empty e in
         let none : replicate FIELDS NONE ≡ x .fields =
         rw (empty 0 (omega arith), empty 1 (omega arith), empty 2 (omega arith), empty 3 (omega arith)) at (four-back (x .fields) len) in
-        ap (λ (b : Bool). same b (replicate FIELDS NONE)) (sym e) ∙ ap (same (x .live)) none
-      where
-        same : Bool → List ℕ → Object
-        same b fs = record { live = b; fields = fs }
+        ap (λ (b : Bool). objectOf b (replicate FIELDS NONE)) (sym e) ∙ ap (objectOf (x .live)) none
 
     -- the record of a live object
-    pub live-fit : x .live ≡ true → (o : ℕ) → o < OBJECTS
-        → Fit (widthsOf Live) (o ∷ getD (x .fields) 0 0 ∷ getD (x .fields) 1 0 ∷ getD (x .fields) 2 0 ∷ getD (x .fields) 3 0 ∷ [])
+    pub live-fit : x .live ≡ true → (o : ℕ) → o < OBJECTS → Fit (widthsOf Live) (o ∷ fourOf (x .fields))
     live-fit e o lt =
         let small = live-small e in
         omega (arith, small 0 (omega arith), small 1 (omega arith), small 2 (omega arith), small 3 (omega arith))
 
-    pub live-is : x .live ≡ true → (o : ℕ)
-        → liveObject (o ∷ getD (x .fields) 0 0 ∷ getD (x .fields) 1 0 ∷ getD (x .fields) 2 0 ∷ getD (x .fields) 3 0 ∷ []) ≡ x
-    live-is e o = ap (λ (fs : List ℕ). same true fs) (four-back (x .fields) len) ∙ ap (λ (b : Bool). same b (x .fields)) (sym e)
-      where
-        same : Bool → List ℕ → Object
-        same b fs = record { live = b; fields = fs }
+    -- stands for it
+    pub live-is : x .live ≡ true → (o : ℕ) → liveObject (o ∷ fourOf (x .fields)) ≡ x
+    live-is e o = ap (objectOf true) (four-back (x .fields) len) ∙ ap (λ (b : Bool). objectOf b (x .fields)) (sym e)
 
 -- ---- roots
-
--- the eight of them
-abbrev pub eightOf : List ℕ → List ℕ
-eightOf xs = getD xs 0 0 ∷ getD xs 1 0 ∷ getD xs 2 0 ∷ getD xs 3 0 ∷ getD xs 4 0 ∷ getD xs 5 0 ∷ getD xs 6 0 ∷ getD xs 7 0 ∷ []
 
 module _ (x : Roots) (fits : fitsRoots x ≡ true) where
   root-small : (r : ℕ) → r < ROOTS → getD (x .at) r 0 < 256 ^ 1
@@ -131,6 +129,7 @@ module _ (x : Roots) (fits : fitsRoots x ≡ true) where
         low 7 (omega arith),
       )
 
+-- stands for them
 pub roots-is : (x : Roots) (p : ℕ) → length (x .at) ≡ ROOTS → rootsOfNode (p ∷ eightOf (x .at)) ≡ x
 roots-is x p len = ap (λ (xs : List ℕ). same xs) (eight-back (x .at) len)
   where

@@ -21,7 +21,7 @@ use Rattle.image.specs.BytesLaws.{Fit}
 use Rattle.image.specs.Content.{number, liveObject, rootsOfNode, directoryEntry, remoteEntry, referenceMessage, decrementMessage}
 use Rattle.image.specs.Content.{fitsRecord, withRecord}
 use Rattle.image.specs.Records.{widthsOf}
-use Rattle.image.specs.Spots.{Takes, below, fit-length, remote-tests}
+use Rattle.image.specs.Takes.{Takes, below, fit-length, remote-tests}
 
 -- the part of a payload after its first number
 tail-length : (k : RecordKind) (ns : List ℕ) (n : ℕ) → Fit (widthsOf k) ns → length (widthsOf k) ≡ suc n → length (take n (drop 1 ns)) ≡ n

@@ -4,16 +4,16 @@ use mathlib.Core.Bool.{Bool, true, false}
 use mathlib.Core.List.{List, [], _∷_, _++_}
 use Prim.Native.Nat.{ℕ, suc, _+_, _*_, _≤_, _<_}
 use native.Mathlib.Decide.{ℕ-discrete}
+use native.Mathlib.Nat.{le-refl}
 use native.Mathlib.Numerals.{add-one}
 use native.Mathlib.Omega.{arith}
 use lib.Dec.{ltb, eqb}
-use lib.ListN.{length, getD, replicate, length-replicate, getD-replicate}
-use lib.Seq.{ext-getD}
+use lib.ListN.{replicate, length-replicate, getD-replicate}
 use borrow.Author.Tests.{leb-true, lt-ltb, le-ltb, eq-eqb, ne-eqb}
 use Rattle.terms.specs.Choose.{if_then_else_, _and_, _or_}
 use Rattle.terms.specs.Counted.{gather}
 use Rattle.terms.specs.Limits.{NODES, OBJECTS, PLACES, EVENTS, ROOTS, NONE, owner}
-use Rattle.terms.specs.ListLaws.{Filled, filled-none, filled-set, filled-keep}
+use Rattle.terms.specs.ListLaws.{filled-none, filled-set, filled-keep, filled-all}
 use Rattle.entry.specs.declared.Entry.{Entry}
 use Rattle.entry.specs.declared.Entry.the-variants.{Absent, AtOwner, Elsewhere}
 use Rattle.entry.specs.Fits.{fitsEntry}
@@ -35,7 +35,7 @@ use Rattle.image.specs.declared.RecordKind.the-variants.{Count, Live, No
 use Rattle.image.specs.declared.Turn.{Turn}
 use Rattle.image.specs.CellLaws.{Cells, shownOf, cells-same, cells-fresh, cells-keep, cells-set, cells-all, ltb-same}
 use Rattle.image.specs.Content.{fitsRecord, withRecord}
-use Rattle.image.specs.ContentLaws.{idle-is, live-fit, live-is, roots-fit, roots-is, directoryNumbers, directory-fit, directory-is}
+use Rattle.image.specs.ContentLaws.{list-back, idle-is, live-fit, live-is, roots-fit, roots-is, directoryNumbers, directory-fit, directory-is}
 use Rattle.image.specs.ContentLaws.{remoteNumbers, remote-fit, remote-is, remote-fits}
 use Rattle.image.specs.ContentLaws.{reference-fit, decrementNumbers, decrement-fit, decrement-is}
 use Rattle.image.specs.Order.{position, turn, firstTurn}
@@ -43,7 +43,7 @@ use Rattle.image.specs.ReadLaws.{Reads, ends}
 use Rattle.image.specs.Records.{Record, row}
 use Rattle.image.specs.Stages.{Stage, At, Leads, in-turn, leads-none, leads-one, leads-append, leads-as, leads-gather}
 use Rattle.image.specs.Writer.{objectRecord, rootsRecord, directoryRecord, remoteRecord, messageRecord, recordsOf}
-use Rattle.image.specs.Sofar.{noObject, noPlace, Sofar, none, directoriesBelow, entriesBelow, and-false, or-true, shown-absent}
+use Rattle.image.specs.Sofar.{noObject, noRoots, noPlace, Sofar, none, directoriesBelow, entriesBelow, and-false, or-true, shown-absent}
 
 -- ---- the sections
 
@@ -307,9 +307,10 @@ module _ (t : Table) (formed : Formed t) (shape : Shaped t) where
   -- when all is read, the table is whole
   whole : (x : Table) → Sofar t OBJECTS NODES (λ p o. true) PLACES x → x ≡ t
   whole x so =
-      let objects = filled-whole (so .objects) (fresh-formed .objects) (formed .objects) in
-      let roots = filled-whole (so .roots) (fresh-formed .nodes) (formed .nodes) in
-      let air = filled-whole (so .air) (fresh-formed .places) (formed .places) in
+      let objects =
+      filled-all (so .objects) OBJECTS (fresh-formed .objects) (le-refl OBJECTS) ∙ list-back noObject OBJECTS (t .heap .objects) (formed .objects) in
+      let roots = filled-all (so .roots) NODES (fresh-formed .nodes) (le-refl NODES) ∙ list-back noRoots NODES (t .heap .roots) (formed .nodes) in
+      let air = filled-all (so .air) PLACES (fresh-formed .places) (le-refl PLACES) ∙ list-back noPlace PLACES (t .air) (formed .places) in
       let cells = cells-all formed (λ p o lp lo. refl) (so .cells) in
       ap (λ (n : ℕ). made n (x .heap .objects) (x .heap .roots) (x .cells) (x .air)) (so .count)
       ∙ ap (λ (l : List Object). made (t .count) l (x .heap .roots) (x .cells) (x .air)) objects
@@ -317,11 +318,6 @@ module _ (t : Table) (formed : Formed t) (shape : Shaped t) where
       ∙ ap (λ (l : List Cell). made (t .count) (t .heap .objects) (t .heap .roots) l (x .air)) cells
       ∙ ap (λ (l : List Place). made (t .count) (t .heap .objects) (t .heap .roots) (t .cells) l) air
     where
-      -- a list of which all is written is the table's
-      filled-whole : {A : Type 0} {d : A} {xs ys l : List A} {n : ℕ} → Filled d (λ k. getD l k d) xs n ys → length xs ≡ n → length l ≡ n → ys ≡ l
-      filled-whole {d = d} {ys = ys} {l = l} filled start size =
-          ext-getD d ys l (filled .size ∙ start ∙ sym size) (λ k lt. filled .below k (omega (arith, filled .size)))
-
       made : ℕ → List Object → List Roots → List Cell → List Place → Table
       made n os rs cs as′ = record { count = n; heap = record { objects = os; roots = rs }; cells = cs; air = as′ }
 

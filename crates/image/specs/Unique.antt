@@ -13,7 +13,7 @@ use Rattle.terms.specs.ChooseLaws.{and-passes, either-way}
 use Rattle.terms.specs.Limits.{NODES, owner}
 use Rattle.table.specs.declared.Table.{Table}
 use Rattle.table.specs.Fresh.{fresh-entry, fresh-message, fresh-object}
-use Rattle.table.specs.Good.{Good, good-formed}
+use Rattle.table.specs.Good.{Good, good-formed, good-shaped}
 use Rattle.table.specs.ShapeLaws.{owner-number}
 use Rattle.table.specs.Table.{freshTable}
 use Rattle.image.specs.declared.RecordKind.{RecordKind}
@@ -25,8 +25,9 @@ use Rattle.image.specs.Order.{position, positionOf, firstTurn, turnAfter
 use Rattle.image.specs.ReadLaws.{Reads, ends, takes}
 use Rattle.image.specs.Records.{Record, row}
 use Rattle.image.specs.SpotOrder.{position-spot, spot-unique, before-end}
-use Rattle.image.specs.Spots.{Spot, spotOf, spotPosition, recordAt, Takes, spot-other, spot-same, remote-tests, small}
+use Rattle.image.specs.Spots.{Spot, spotOf, spotPosition, recordAt}
 use Rattle.image.specs.Stored.{liveRecord}
+use Rattle.image.specs.Takes.{Takes, spot-other, spot-same, remote-tests, small}
 use Rattle.image.specs.Writer.{directoryRecord, remoteRecord, messageRecord}
 
 -- the first position in turn is no later, and the last no earlier
@@ -57,7 +58,7 @@ passed-stays (takes {now = now} {t = t} k ns go-on known fit turns fits more) go
     let it : Takes k ns = record { onward = go-on; known = known; fit = fit; allowed = fits } in
     let at = in-turn-at now k ns turns in
     passed-stays more (keeps t good k ns it) s (omega (arith, at .0, turn-after k ns it))
-    ∙ spot-other t good k ns it s (λ q. absurd (omega (arith, at .0)))
+    ∙ spot-other t (good-shaped good) k ns it s (λ q. absurd (omega (arith, at .0)))
 
 -- the record taken is in the end table at its spot
 taken-stands : {u t : Table} {rs : List Record} (k : RecordKind) (ns : List ℕ) → Takes k ns → Good t
@@ -117,7 +118,7 @@ ready-after : {now : Turn} {t : Table} → Good t → Ready now t → (r : Recor
 ready-after {now} {t} good ready r qs at low = record {
   optional = optional-after r qs at;
   fresh = λ k ns it le opt.
-      spot-other t good r qs at (spotOf k ns) (λ q. absurd (omega (arith, turn-after r qs at, position-spot k ns it)))
+      spot-other t (good-shaped good) r qs at (spotOf k ns) (λ q. absurd (omega (arith, turn-after r qs at, position-spot k ns it)))
       ∙ ready .fresh k ns it (omega (arith, turn-after r qs at)) opt;
 }
 
@@ -137,7 +138,7 @@ not-before : {now : Turn} {t u : Table} {rs rs′ : List Record} (k : RecordKind
 not-before {now} {t} k ns k′ ns′ good ready it it′ low high lt more more′ =
     cons-no (row k ns) [] (sym (taken-stands k ns it good more)
     ∙ passed-stays more′ (keeps t good k′ ns′ it′) (spotOf k ns) (omega (arith, position-spot k ns it, turn-after k′ ns′ it′))
-    ∙ spot-other t good k′ ns′ it′ (spotOf k ns) (λ q. absurd (omega (arith, position-spot k ns it)))
+    ∙ spot-other t (good-shaped good) k′ ns′ it′ (spotOf k ns) (λ q. absurd (omega (arith, position-spot k ns it)))
     ∙ ready .fresh k ns it low (ready .optional k ns it low (omega arith)))
 
 -- a record taken where another reading ends cannot be
