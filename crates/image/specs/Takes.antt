@@ -189,7 +189,8 @@ module _ (t : Table) (formed : Formed t) where
       (below (number ns 0) NODES _ (takes .allowed) .0))
   spot-same Directory ns takes =
       subst (Stands Directory) (unfolded Directory ns 3 (takes .fit) refl)
-      (here-directory (number ns 0) (number ns 1) (number ns 2) (small Directory ns takes refl) (four-bytes (widthsOf Directory) ns 2 (takes .fit) refl))
+      (here-directory (number ns 0) (number ns 1) (number ns 2) (small Directory ns takes refl)
+      (four-bytes (widthsOf Directory) ns 2 (takes .fit) refl))
   spot-same Remote ns takes =
       let tests = remote-tests ns (takes .allowed) in
       subst (Stands Remote) (unfolded Remote ns 7 (takes .fit) refl)
