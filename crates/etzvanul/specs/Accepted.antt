@@ -8,10 +8,10 @@ use lib.Dec.{ltb}
 use lib.ListN.{length}
 use borrow.Author.Tests.{le-ltb}
 use Rattle.terms.specs.Numbers.{ACCEPTED}
+use Rattle.table.specs.Good.{good-formed, good-shape, good-shaped}
 use Rattle.image.specs.declared.Held.the-variants as h
 use Rattle.image.specs.BytesLaws.{AreBytes}
 use Rattle.image.specs.Find.{KEYED, frontPlace, offset, heldOf, sizeOf, foundFrom}
-use Rattle.image.specs.Keeps.{in-shape}
 use Rattle.image.specs.Reader.{read}
 use Rattle.image.specs.RoundTrip.{read-good, image-read}
 use Rattle.image.specs.Spots.{count, spotPosition}
@@ -43,9 +43,9 @@ module _ (l : List ℕ) (are : AreBytes l) (accepted : read l .answer ≡ ACCEPT
   told =
       let good = read-good l are accepted in
       record {
-        formed = good .formed;
-        fits = in-shape (read l .table) (good .shape);
-        shape = good .shape;
+        formed = good-formed good;
+        fits = good-shape good;
+        shape = good-shaped good;
         image = image-read l are accepted;
         objects = object-told l are accepted;
         roots = roots-told l are accepted;

@@ -17,7 +17,6 @@ use Rattle.heap.specs.Heap.{born, fieldAt, freeOwn, isLive, isNone, objectAt, r
 use Rattle.heap.specs.Walk.{ownedBy}
 use Rattle.image.specs.Find.{ofObject}
 use Rattle.image.specs.Spots.{count, object, roots}
-use Rattle.laws.specs.Tables.ShapeLaws.{shaped, root-object}
 use Rattle.splice.specs.Changed.{rootsWith}
 use Rattle.splice.specs.Events.{root-differs}
 use Rattle.splice.specs.Kinds.{objectWith, new-differs, store-differs}
@@ -30,6 +29,7 @@ use Rattle.step.specs.New.{chosen, new}
 use Rattle.step.specs.Outcome.{by, did, refused}
 use Rattle.step.specs.Store.{store}
 use Rattle.table.specs.declared.Table.{Table}
+use Rattle.table.specs.ShapeLaws.{root-object, shaped}
 use Rattle.table.specs.Table.{entryAt, withHeap}
 use Rattle.etzvanul.specs.declared.Change.the-variants.{Same}
 use Rattle.etzvanul.specs.declared.Plan.{Plan}

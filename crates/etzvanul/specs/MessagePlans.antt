@@ -7,7 +7,7 @@ use Prim.Native.Nat.{ℕ, _+_, _<_}
 use native.Mathlib.Omega.{arith}
 use lib.Dec.{eqb}
 use lib.ListN.{getD}
-use borrow.Author.Tests.{ltb-true, eq-eqb, not-true, not-false}
+use borrow.Author.Tests.{ltb-true, eq-eqb, ne-eqb, not-false}
 use Rattle.terms.specs.Choose.{if_then_else_, _when_, _and_}
 use Rattle.terms.specs.Limits.{NODES, OBJECTS, PLACES, ROOTS, owner}
 use Rattle.terms.specs.Numbers.{SELF, EMPTY, TORN, FULL, ROOT, NOMSG, NOENTRY, BUSY}
@@ -15,6 +15,7 @@ use Rattle.entry.specs.declared.Entry.{Entry}
 use Rattle.entry.specs.declared.Entry.the-variants.{Absent, AtOwner, Elsewhere}
 use Rattle.entry.specs.AtNode.{mayGo, refuses, sent, received, settled}
 use Rattle.entry.specs.Fits.{fitsEntry}
+use Rattle.entry.specs.FitsLaws.{away, home}
 use Rattle.heap.specs.declared.Object.{Object}
 use Rattle.heap.specs.declared.Roots.{Roots}
 use Rattle.heap.specs.Heap.{isNone, rootAt}
@@ -22,15 +23,14 @@ use Rattle.heap.specs.Walk.{ownedBy}
 use Rattle.table.specs.declared.Message.{Message}
 use Rattle.table.specs.declared.Message.the-variants as m
 use Rattle.table.specs.declared.Table.{Table}
+use Rattle.table.specs.ShapeLaws.{decrement-way, reference-way, root-object, shaped}
 use Rattle.table.specs.Table.{emptyPlace, entryAt, isEmpty, messageAt}
 use Rattle.image.specs.declared.Held.{Held}
 use Rattle.image.specs.declared.Held.the-variants as h
-use Rattle.image.specs.ContentLaws.{directory-at, remote-away}
 use Rattle.image.specs.Find.{entryRecords, heldRecords}
 use Rattle.image.specs.Spots.{count, message, roots}
 use Rattle.image.specs.Writer.{directoryRecord, remoteRecord, messageRecord}
 use Rattle.laws.specs.Events.EntryFits.{sent-fits, received-fits, settled-fits}
-use Rattle.laws.specs.Tables.ShapeLaws.{shaped, root-object, reference-way, decrement-way}
 use Rattle.splice.specs.Changed.{entrySpot, entryRecord, entry-within, rootsWith}
 use Rattle.splice.specs.Events.{entryTo, messageTo}
 use Rattle.splice.specs.Kinds.{send-differs, received-differs, settle-differs, cleared-differs, dropped-differs}
@@ -58,8 +58,8 @@ nothing-held p o = go (eqb p (owner o))
 -- the record of an entry that fits where it stands
 entry-held : (p o : ℕ) (e : Entry) → fitsEntry p o e ≡ true → entryRecord p o e ≡ entryRecords p o e
 entry-held p o Absent fits = nothing-held p o
-entry-held p o (AtOwner d) fits = rw (eq-eqb p (owner o) (directory-at d o p fits))
-entry-held p o (Elsewhere r) fits = rw (not-true (eqb p (owner o)) (remote-away r p o fits))
+entry-held p o (AtOwner d) fits = rw (eq-eqb p (owner o) (home p o d fits .own))
+entry-held p o (Elsewhere r) fits = rw (ne-eqb p (owner o) (away p o r fits .elsewhere))
 
 module _ (l : List ℕ) (t : Table) (told : Told l t) where
   -- ---- what the image tells

@@ -25,8 +25,8 @@ use Rattle.table.specs.declared.Cell.{Cell}
 use Rattle.table.specs.declared.Slot.{Slot}
 use Rattle.table.specs.declared.Table.{Table}
 use Rattle.table.specs.Formed.{Formed}
+use Rattle.table.specs.ShapeLaws.{Shaped}
 use Rattle.table.specs.Table.{cellAt, cellWith, entryAt, entryIn, withCount}
-use Rattle.image.specs.ContentLaws.{Shaped}
 use Rattle.image.specs.Spots.{Spot, count, object, roots, directory, remote, message, spotPosition, recordAt}
 use Rattle.image.specs.Stored.{liveRecord}
 use Rattle.image.specs.Writer.{directoryRecord, remoteRecord}

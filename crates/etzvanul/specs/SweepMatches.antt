@@ -5,7 +5,7 @@ use mathlib.Core.List.{List, [], _∷_, _++_, append-nil}
 use Prim.Native.Nat.{ℕ, _+_, _*_, _<_}
 use native.Mathlib.Omega.{arith}
 use lib.Dec.{eqb}
-use borrow.Author.Tests.{eq-eqb, not-true}
+use borrow.Author.Tests.{eq-eqb, ne-eqb}
 use Rattle.terms.specs.Choose.{if_then_else_}
 use Rattle.terms.specs.Counted.{list}
 use Rattle.terms.specs.Limits.{NODES, OBJECTS, OWNED, owner}
@@ -13,12 +13,12 @@ use Rattle.entry.specs.declared.Entry.{Entry}
 use Rattle.entry.specs.declared.Entry.the-variants.{Absent, AtOwner, Elsewhere}
 use Rattle.entry.specs.AtNode.{setUnused}
 use Rattle.entry.specs.Fits.{fitsEntry}
+use Rattle.entry.specs.FitsLaws.{away, home}
 use Rattle.heap.specs.Walk.{isMarked}
 use Rattle.table.specs.declared.Table.{Table}
 use Rattle.table.specs.Table.{entryAt}
 use Rattle.image.specs.declared.Held.{Held}
 use Rattle.image.specs.declared.Held.the-variants as h
-use Rattle.image.specs.ContentLaws.{directory-at, remote-away}
 use Rattle.image.specs.Find.{entryRecords, heldRecords}
 use Rattle.image.specs.Records.{Record}
 use Rattle.image.specs.Spots.{Spot, count, object}
@@ -41,8 +41,8 @@ unused-records p o Absent fits = go (eqb p (owner o))
     go : (b : Bool) → _≡_ {A = List Record} (if b then [] else []) []
     go true = refl
     go false = refl
-unused-records p o (AtOwner d) fits = rw (eq-eqb p (owner o) (directory-at d o p fits))
-unused-records p o (Elsewhere r) fits = rw (not-true (eqb p (owner o)) (remote-away r p o fits))
+unused-records p o (AtOwner d) fits = rw (eq-eqb p (owner o) (home p o d fits .own))
+unused-records p o (Elsewhere r) fits = rw (ne-eqb p (owner o) (away p o r fits .elsewhere))
 
 module _ {l : List ℕ} {t : Table} (told : Told l t) (p : ℕ) (lp : p < NODES) (s : Sweep) where
   small : (k : ℕ) → k < OWNED → OWNED * p + k < OBJECTS

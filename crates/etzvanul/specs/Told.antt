@@ -10,8 +10,8 @@ use Rattle.heap.specs.Heap.{objectAt, rootsAt}
 use Rattle.table.specs.declared.Table.{Table}
 use Rattle.table.specs.Formed.{Formed}
 use Rattle.table.specs.Shape.{fitsTable}
+use Rattle.table.specs.ShapeLaws.{Shaped}
 use Rattle.table.specs.Table.{entryAt, isEmpty, messageAt}
-use Rattle.image.specs.ContentLaws.{Shaped}
 use Rattle.image.specs.Find.{offset, foundFrom}
 use Rattle.image.specs.Order.{position}
 use Rattle.image.specs.Spots.{Spot, spotPosition}

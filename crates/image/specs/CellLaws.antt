@@ -6,7 +6,7 @@ use Prim.Native.Nat.{ℕ, _<_}
 use native.Mathlib.Decide.{ℕ-discrete}
 use native.Mathlib.Omega.{arith}
 use lib.Dec.{ltb}
-use lib.ListN.{length, getD, set, replicate, length-set, length-replicate, getD-replicate}
+use lib.ListN.{length, getD, set, length-set}
 use lib.Seq.{ext-getD, getD-set-same, getD-set-other}
 use borrow.Author.Tests.{ltb-true, ltb-false, lt-ltb}
 use Rattle.terms.specs.Choose.{if_then_else_}
@@ -17,7 +17,9 @@ use Rattle.table.specs.declared.Cell.{Cell}
 use Rattle.table.specs.declared.Slot.{Slot}
 use Rattle.table.specs.declared.Table.{Table}
 use Rattle.table.specs.Formed.{Formed}
+use Rattle.table.specs.Fresh.{fresh-entry, fresh-formed}
 use Rattle.table.specs.Table.{freshTable, cellAt, cellWith, entryIn, entryAt}
+use Rattle.table.specs.TableLaws.{cell-kept, cell-set, set-all}
 
 abbrev noCell : Cell
 noCell = record { at = [] }
@@ -44,14 +46,11 @@ module _ {t : Table} where
 
   -- the fresh cells show nothing
   pub cells-fresh : {shown : ℕ → ℕ → Bool} → ((p o : ℕ) → shown p o ≡ false) → Cells t shown (freshTable .cells)
-  cells-fresh {shown} none = record {
-    size = length-replicate OBJECTS empty;
-    sizes = λ o lo. rw (getD-replicate OBJECTS o empty noCell lo) (length-replicate NODES noSlot);
-    entries = λ p o lp lo. rw (getD-replicate OBJECTS o empty noCell lo, getD-replicate NODES p noSlot noSlot lp, none p o);
+  cells-fresh none = record {
+    size = fresh-formed .cells;
+    sizes = fresh-formed .entries;
+    entries = λ p o lp lo. rw (none p o) (fresh-entry p o lp lo);
   }
-    where
-      empty : Cell
-      empty = record { at = replicate NODES noSlot }
 
   -- one entry more is shown, and stood there already
   pub cells-keep : {shown shown′ : ℕ → ℕ → Bool} {cs : List Cell} (p o : ℕ)
@@ -76,32 +75,23 @@ module _ {t : Table} where
       there : getD (set cs o new) o noCell ≡ new
       there = getD-set-same cs o new noCell (omega (arith, c .size))
 
-      elsewhere : (a : ℕ) → (a ≡ o → ⊥) → getD (set cs o new) a noCell ≡ getD cs a noCell
-      elsewhere a ne = getD-set-other cs o a new noCell ne
-
       sized : (a : ℕ) → a < OBJECTS → length (getD (set cs o new) a noCell .at) ≡ NODES
-      sized a la = elim (ℕ-discrete a o) [
-        | yes q ↦ rw (q, there) (length-set (getD cs o noCell .at) p (record { held = e }) ∙ c .sizes o lo)
-        | no ne ↦ rw (elsewhere a ne) (c .sizes a la)
-      ]
+      sized a la =
+          set-all (λ j x. length (x .at) ≡ NODES) cs o new noCell (length-set (getD cs o noCell .at) p (record { held = e }) ∙ c .sizes o lo)
+          a (c .sizes a la)
 
       held : (q a : ℕ) → q < NODES → a < OBJECTS → entryIn (getD (set cs o new) a noCell) q ≡ shownOf (shown′ q a) (entryAt t q a)
       held q a lq la = elim (ℕ-discrete a o) [
         | yes ea ↦ rw (ea, there) (elim (ℕ-discrete q p) [
-          | yes eq ↦
-              let same = getD-set-same (getD cs o noCell .at) p (record { held = e }) noSlot (omega (arith, c .sizes o lo)) in
-              rw eq (ap (λ (s : Slot). s .held) same ∙ is)
-          | no nq ↦
-              ap (λ (s : Slot). s .held) (getD-set-other (getD cs o noCell .at) p q (record { held = e }) noSlot nq)
-              ∙ c .entries q o lq lo ∙ other q o lq lo (λ _ eq. nq eq)
+          | yes eq ↦ rw eq (cell-set (getD cs o noCell) p e (omega (arith, c .sizes o lo)) ∙ is)
+          | no nq ↦ cell-kept (getD cs o noCell) p q e nq ∙ c .entries q o lq lo ∙ other q o lq lo (λ _ eq. nq eq)
         ])
-        | no na ↦ rw (elsewhere a na) (c .entries q a lq la ∙ other q a lq la (λ ea _. na ea))
+        | no na ↦ rw (getD-set-other cs o a new noCell na) (c .entries q a lq la ∙ other q a lq la (λ ea _. na ea))
       ]
 
   -- where all are shown, they are the table's cells
   pub cells-all : {shown : ℕ → ℕ → Bool} {cs : List Cell} → Formed t
-      → ((p o : ℕ) → p < NODES → o < OBJECTS → shownOf (shown p o) (entryAt t p o) ≡ entryAt t p o)
-      → Cells t shown cs → cs ≡ t .cells
+      → ((p o : ℕ) → p < NODES → o < OBJECTS → shownOf (shown p o) (entryAt t p o) ≡ entryAt t p o) → Cells t shown cs → cs ≡ t .cells
   cells-all {shown} {cs} formed all c = ext-getD noCell cs (t .cells) (c .size ∙ sym (formed .cells)) one
     where
       slots : (o : ℕ) → o < OBJECTS → getD cs o noCell .at ≡ cellAt t o .at

@@ -7,6 +7,7 @@ pub mod ContentLaws
 pub mod Find
 pub mod Front
 pub mod Keeps
+pub mod OneSpot
 pub mod Order
 pub mod ReadLaws
 pub mod Reader
@@ -22,5 +23,6 @@ pub mod Stages
 pub mod Stays
 pub mod Stored
 pub mod StoredLaws
+pub mod Takes
 pub mod Unique
 pub mod Writer

@@ -10,6 +10,7 @@ use lib.Seq.{drop-at, drop-drop}
 use borrow.Author.Tests.{le-ltb, ltb-false, eqb-true, not-false}
 use Rattle.terms.specs.Choose.{Refusal, if_then_else_, _and_, answered}
 use Rattle.terms.specs.Bytes.{bytesOf, numberOf, packed}
+use Rattle.terms.specs.ChooseLaws.{either-way}
 use Rattle.terms.specs.Numbers.{ACCEPTED}
 use Rattle.table.specs.declared.Table.{Table}
 use Rattle.image.specs.declared.Loaded.{Loaded}
@@ -19,7 +20,8 @@ use Rattle.image.specs.declared.Turn.{Turn}
 use Rattle.image.specs.BytesLaws.{AreBytes, Fit, length-packed, unpacked-packed, packed-unpacked, fit-unpacked, bytes-drop, bytesOf-numberOf}
 use Rattle.image.specs.Content.{fitsRecord, withRecord}
 use Rattle.image.specs.Order.{turnAfter, inTurn}
-use Rattle.image.specs.Reader.{Taken, stop, finished, onward, statedLength, statedKind, payload, restAfter, frameRefusals, contentRefusals, takeIn, recordOf, takeRecord, thenRead, readFrom}
+use Rattle.image.specs.Reader.{Taken, stop, finished, onward, statedLength, statedKind, payload, restAfter, frameRefusals, contentRefusals}
+use Rattle.image.specs.Reader.{takeIn, recordOf, takeRecord, thenRead, readFrom}
 use Rattle.image.specs.Records.{Record, row, HEAD, codeOf, kindOfCode, isUnknown, isEnd, lengthOf, widthsOf, recordBytes}
 use Rattle.image.specs.Writer.{bytesOfAll}
 
@@ -131,71 +133,21 @@ bytes-append (r ∷ rs) more = rw (bytes-append rs more) (sym (append-assoc (rec
 
 -- ---- and back: what was accepted is the bytes of records
 
+-- c is the number of k, if k is known
+record Numbered (c : ℕ) (k : RecordKind) : Type 0 where
+  back : isUnknown k ≡ false → codeOf k ≡ c
+
 -- the number of a known kind
-code-back : (c : ℕ) → isUnknown (kindOfCode c) ≡ false → codeOf (kindOfCode c) ≡ c
+code-back : (c : ℕ) → Numbered c (kindOfCode c)
 unfolding kindOfCode
-code-back c = from0
+code-back c =
+    tried Count (tried Live (tried NodeRoots (tried Directory (tried Remote (tried Reference (tried Decrement (tried End none)))))))
   where
-    Back : RecordKind → Type 0
-    Back k = isUnknown k ≡ false → codeOf k ≡ c
+    none : Numbered c Unknown
+    none = record { back = λ known. absurd (true≢false known) }
 
-    step : (k : RecordKind) (n : ℕ) → codeOf k ≡ n → (other : RecordKind) → Back other → Back (if eqb c n then k else other)
-    step k n is other rest = go (eqb c n) refl
-      where
-        go : (b : Bool) → eqb c n ≡ b → Back (if b then k else other)
-        go true e = λ known. is ∙ sym (eqb-true c n e)
-        go false e = rest
-
-    k8 : RecordKind
-    k8 = Unknown
-
-    from8 : Back k8
-    from8 e = absurd (true≢false e)
-
-    k7 : RecordKind
-    k7 = if eqb c 0x01FF then End else k8
-
-    from7 : Back k7
-    from7 = step End 0x01FF refl k8 from8
-
-    k6 : RecordKind
-    k6 = if eqb c 0x0106 then Decrement else k7
-
-    from6 : Back k6
-    from6 = step Decrement 0x0106 refl k7 from7
-
-    k5 : RecordKind
-    k5 = if eqb c 0x0105 then Reference else k6
-
-    from5 : Back k5
-    from5 = step Reference 0x0105 refl k6 from6
-
-    k4 : RecordKind
-    k4 = if eqb c 0x0104 then Remote else k5
-
-    from4 : Back k4
-    from4 = step Remote 0x0104 refl k5 from5
-
-    k3 : RecordKind
-    k3 = if eqb c 0x0103 then Directory else k4
-
-    from3 : Back k3
-    from3 = step Directory 0x0103 refl k4 from4
-
-    k2 : RecordKind
-    k2 = if eqb c 0x0102 then NodeRoots else k3
-
-    from2 : Back k2
-    from2 = step NodeRoots 0x0102 refl k3 from3
-
-    k1 : RecordKind
-    k1 = if eqb c 0x0101 then Live else k2
-
-    from1 : Back k1
-    from1 = step Live 0x0101 refl k2 from2
-
-    from0 : Back (if eqb c 0x0100 then Count else k1)
-    from0 = step Count 0x0100 refl k1 from1
+    tried : (k : RecordKind) {other : RecordKind} → Numbered c other → Numbered c (if eqb c (codeOf k) then k else other)
+    tried k rest = either-way (Numbered c) (eqb c (codeOf k)) (λ same. record { back = λ known. sym (eqb-true c (codeOf k) same) }) rest
 
 -- bytes whose frame is in order are a record's, and those behind it
 front-back : (l : List ℕ) (k : RecordKind) → AreBytes l → statedKind l ≡ k → HEAD ≤ length l → isUnknown k ≡ false
@@ -207,7 +159,7 @@ front-back (a ∷ b ∷ c ∷ []) k are kind head known len le = absurd (omega a
 front-back (a ∷ b ∷ c ∷ d ∷ l) k are kind head known len le = whole
   where
     code : codeOf k ≡ numberOf (c ∷ d ∷ [])
-    code = rw kind at (code-back (numberOf (c ∷ d ∷ [])) (rw kind known))
+    code = rw kind at (code-back (numberOf (c ∷ d ∷ [])) .back (rw kind known))
 
     one : bytesOf 2 (lengthOf k) ≡ a ∷ b ∷ []
     one = rw len at (bytesOf-numberOf (a ∷ b ∷ []) (are .0, (are .1 .0, tt)))
@@ -215,16 +167,20 @@ front-back (a ∷ b ∷ c ∷ d ∷ l) k are kind head known len le = whole
     two : bytesOf 2 (codeOf k) ≡ c ∷ d ∷ []
     two = rw code (bytesOf-numberOf (c ∷ d ∷ []) (are .1 .1 .0, (are .1 .1 .1 .0, tt)))
 
+    -- the payload and what stands behind it
+    behind : List ℕ
+    behind = packed (widthsOf k) (payload k (a ∷ b ∷ c ∷ d ∷ l)) ++ restAfter k (a ∷ b ∷ c ∷ d ∷ l)
+
     rest : restAfter k (a ∷ b ∷ c ∷ d ∷ l) ≡ drop (lengthOf k) l
     rest = sym (drop-drop (lengthOf k) HEAD (a ∷ b ∷ c ∷ d ∷ l))
 
-    three : packed (widthsOf k) (payload k (a ∷ b ∷ c ∷ d ∷ l)) ++ restAfter k (a ∷ b ∷ c ∷ d ∷ l) ≡ l
+    three : behind ≡ l
     three = rw (rest, packed-unpacked (widthsOf k) l (are .1 .1 .1 .1) (omega arith)) (take-append-drop (lengthOf k) l)
 
     whole : front k (payload k (a ∷ b ∷ c ∷ d ∷ l)) (restAfter k (a ∷ b ∷ c ∷ d ∷ l)) ≡ a ∷ b ∷ c ∷ d ∷ l
     whole =
-        ap (λ (h : List ℕ). h ++ (bytesOf 2 (codeOf k) ++ []) ++ packed (widthsOf k) (payload k (a ∷ b ∷ c ∷ d ∷ l)) ++ restAfter k (a ∷ b ∷ c ∷ d ∷ l)) one
-        ∙ ap (λ (h : List ℕ). (a ∷ b ∷ []) ++ (h ++ []) ++ packed (widthsOf k) (payload k (a ∷ b ∷ c ∷ d ∷ l)) ++ restAfter k (a ∷ b ∷ c ∷ d ∷ l)) two
+        ap (λ (h : List ℕ). h ++ (bytesOf 2 (codeOf k) ++ []) ++ behind) one
+        ∙ ap (λ (h : List ℕ). (a ∷ b ∷ []) ++ (h ++ []) ++ behind) two
         ∙ ap (λ (r : List ℕ). a ∷ b ∷ c ∷ d ∷ r) three
 
 -- what an accepted read has read: records with these bytes
@@ -247,7 +203,8 @@ none-applies : (go : Turn → Table → List ℕ → Loaded) (rs : List Refusal)
 none-applies go [] effect refusing = λ e. (tt, refl)
 none-applies go (r ∷ rs) effect refusing = test (r .applies) refl (none-applies go rs effect (refusing .1))
   where
-    test : (b : Bool) → r .applies ≡ b → (thenRead (answered stop rs effect) go .answer ≡ ACCEPTED → NoneApplies rs × (answered stop rs effect ≡ effect))
+    test : (b : Bool) → r .applies ≡ b
+        → (thenRead (answered stop rs effect) go .answer ≡ ACCEPTED → NoneApplies rs × (answered stop rs effect ≡ effect))
         → thenRead (if b then stop (r .number) else answered stop rs effect) go .answer ≡ ACCEPTED
         → ((r .applies ≡ false) × NoneApplies rs) × ((if b then stop (r .number) else answered stop rs effect) ≡ effect)
     test true is rest e = absurd (omega (arith, refusing .0))
@@ -270,7 +227,8 @@ is-end End e = refl
 is-end Unknown e = absurd (false≢true e)
 
 -- an accepted read has read records
-pub read-off : (n : ℕ) (now : Turn) (t : Table) (l : List ℕ) → AreBytes l → readFrom n now t l .answer ≡ ACCEPTED → ReadOff now t l (readFrom n now t l .table)
+pub read-off : (n : ℕ) (now : Turn) (t : Table) (l : List ℕ) → AreBytes l → readFrom n now t l .answer ≡ ACCEPTED
+    → ReadOff now t l (readFrom n now t l .table)
 unfolding readFrom recordOf bytesOfAll
 read-off zero now t l are = λ e. absurd (omega arith)
 read-off (suc n) now t l are = at-kind (statedKind l) refl (λ now′ t′ l′. read-off n now′ t′ l′)
@@ -279,7 +237,8 @@ read-off (suc n) now t l are = at-kind (statedKind l) refl (λ now′ t′ l′.
     go now′ t′ rest = readFrom n now′ t′ rest
 
     at-kind : (k : RecordKind) → statedKind l ≡ k
-        → ((now′ : Turn) (t′ : Table) (l′ : List ℕ) → AreBytes l′ → readFrom n now′ t′ l′ .answer ≡ ACCEPTED → ReadOff now′ t′ l′ (readFrom n now′ t′ l′ .table))
+        → ((now′ : Turn) (t′ : Table) (l′ : List ℕ) → AreBytes l′ → readFrom n now′ t′ l′ .answer ≡ ACCEPTED
+        → ReadOff now′ t′ l′ (readFrom n now′ t′ l′ .table))
         → thenRead (recordOf now t l k (payload k l) (restAfter k l)) go .answer ≡ ACCEPTED
         → ReadOff now t l (thenRead (recordOf now t l k (payload k l) (restAfter k l)) go .table)
     at-kind k kind more e =

@@ -8,6 +8,8 @@ use lib.ListN.{length}
 use Rattle.terms.specs.Numbers.{ACCEPTED}
 use Rattle.table.specs.declared.Table.{Table}
 use Rattle.table.specs.Formed.{Formed}
+use Rattle.table.specs.Fresh.{fresh-good}
+use Rattle.table.specs.Good.{Good, good-formed, good-shape}
 use Rattle.table.specs.Shape.{fitsTable}
 use Rattle.table.specs.Table.{freshTable}
 use Rattle.image.specs.declared.Loaded.{Loaded}
@@ -15,7 +17,6 @@ use Rattle.image.specs.BytesLaws.{AreBytes}
 use Rattle.image.specs.Order.{firstTurn}
 use Rattle.image.specs.Reader.{read}
 use Rattle.image.specs.ReadLaws.{reads-from, length-bytesOfAll, read-off}
-use Rattle.image.specs.Keeps.{Good, good-fresh, in-shape}
 use Rattle.image.specs.Unique.{reads-same, reads-good, ready-first}
 use Rattle.image.specs.Sizes.{image-size}
 use Rattle.image.specs.Writer.{recordsOf, bytesOfAll, image}
@@ -31,7 +32,7 @@ read-image t formed fits = reads-from (reads-records t formed fits) (length (ima
 -- what an accepted read gives is formed and in shape
 pub read-good : (l : List ℕ) → AreBytes l → read l .answer ≡ ACCEPTED → Good (read l .table)
 unfolding read
-read-good l are e = reads-good (read-off (length l) firstTurn freshTable l are e .2) good-fresh
+read-good l are e = reads-good (read-off (length l) firstTurn freshTable l are e .2) fresh-good
 
 -- an accepted image is the image of the table that it gives
 pub image-read : (l : List ℕ) → AreBytes l → read l .answer ≡ ACCEPTED → image (read l .table) ≡ l
@@ -39,8 +40,8 @@ unfolding read image
 image-read l are e =
     let off = read-off (length l) firstTurn freshTable l are e in
     let good = read-good l are e in
-    let again = reads-records (read l .table) (good .formed) (in-shape (read l .table) (good .shape)) in
-    ap bytesOfAll (reads-same again (off .2) good-fresh ready-first) ∙ off .1
+    let again = reads-records (read l .table) (good-formed good) (good-shape good) in
+    ap bytesOfAll (reads-same again (off .2) fresh-good ready-first) ∙ off .1
 
 -- ---- what follows
 
@@ -58,4 +59,4 @@ accepted-injective l r bl br al ar e = sym (image-read l bl al) ∙ ap image e �
 pub accepted-size : (l : List ℕ) → AreBytes l → read l .answer ≡ ACCEPTED → (116 ≤ length l) × (length l ≤ 11508)
 accepted-size l are e =
     subst (λ (x : List ℕ). (116 ≤ length x) × (length x ≤ 11508)) (image-read l are e)
-    (image-size (read l .table) (in-shape (read l .table) (read-good l are e .shape)))
+    (image-size (read l .table) (good-shape (read-good l are e)))

@@ -1,22 +1,23 @@
 -- The records of a formed table in shape, section by section, are read from the first turn on and give that table. Assumes nothing.
 use mathlib.Core.Path.{_≡_, refl, sym, ap, _∙_}
-use mathlib.Core.Bool.{Bool, true, false, false≢true}
+use mathlib.Core.Bool.{Bool, true, false}
 use mathlib.Core.List.{List, [], _∷_, _++_}
 use Prim.Native.Nat.{ℕ, suc, _+_, _*_, _≤_, _<_}
 use native.Mathlib.Decide.{ℕ-discrete}
+use native.Mathlib.Nat.{le-refl}
 use native.Mathlib.Numerals.{add-one}
 use native.Mathlib.Omega.{arith}
 use lib.Dec.{ltb, eqb}
-use lib.ListN.{set, replicate, length-replicate, getD-replicate}
-use lib.Seq.{ext-getD}
-use borrow.Author.Tests.{lt-ltb, le-ltb, eq-eqb, ne-eqb}
+use lib.ListN.{replicate, length-replicate, getD-replicate}
+use borrow.Author.Tests.{leb-true, lt-ltb, le-ltb, eq-eqb, ne-eqb}
 use Rattle.terms.specs.Choose.{if_then_else_, _and_, _or_}
 use Rattle.terms.specs.Counted.{gather}
-use Rattle.terms.specs.Limits.{NODES, OBJECTS, PLACES, ROOTS, NONE, owner}
-use Rattle.terms.specs.ListLaws.{filled-none, filled-set, filled-keep}
+use Rattle.terms.specs.Limits.{NODES, OBJECTS, PLACES, EVENTS, ROOTS, NONE, owner}
+use Rattle.terms.specs.ListLaws.{filled-none, filled-set, filled-keep, filled-all}
 use Rattle.entry.specs.declared.Entry.{Entry}
 use Rattle.entry.specs.declared.Entry.the-variants.{Absent, AtOwner, Elsewhere}
 use Rattle.entry.specs.Fits.{fitsEntry}
+use Rattle.entry.specs.FitsLaws.{away, home}
 use Rattle.heap.specs.declared.Object.{Object}
 use Rattle.heap.specs.declared.Roots.{Roots}
 use Rattle.heap.specs.Heap.{idle, objectAt, rootsAt, isLive, fieldsOf, rootsOf}
@@ -26,13 +27,16 @@ use Rattle.table.specs.declared.Message.{Message}
 use Rattle.table.specs.declared.Message.the-variants as m
 use Rattle.table.specs.declared.Table.{Table}
 use Rattle.table.specs.Formed.{Formed}
+use Rattle.table.specs.Fresh.{fresh-formed}
 use Rattle.table.specs.Shape.{fitsMessage, fitsTable}
-use Rattle.table.specs.Table.{freshTable, entryAt, messageAt}
+use Rattle.table.specs.ShapeLaws.{Shaped, owner-number, shaped}
+use Rattle.table.specs.Table.{freshTable, entryAt, messageAt, withCells, withMessage}
 use Rattle.image.specs.declared.RecordKind.the-variants.{Count, Live, NodeRoots, Directory, Remote, Reference, Decrement, End}
+use Rattle.image.specs.declared.Turn.{Turn}
 use Rattle.image.specs.CellLaws.{Cells, shownOf, cells-same, cells-fresh, cells-keep, cells-set, cells-all, ltb-same}
 use Rattle.image.specs.Content.{fitsRecord, withRecord}
-use Rattle.image.specs.ContentLaws.{Shaped, shaped, idle-is, live-fit, live-is, roots-fit, roots-is, most-fits, directory-fit, directory-is}
-use Rattle.image.specs.ContentLaws.{directoryNumbers, remoteNumbers, remote-away, remote-fit, remote-is, remote-fits, directory-at}
+use Rattle.image.specs.ContentLaws.{list-back, idle-is, live-fit, live-is, roots-fit, roots-is, directoryNumbers, directory-fit, directory-is}
+use Rattle.image.specs.ContentLaws.{remoteNumbers, remote-fit, remote-is, remote-fits}
 use Rattle.image.specs.ContentLaws.{reference-fit, decrementNumbers, decrement-fit, decrement-is}
 use Rattle.image.specs.Order.{position, turn, firstTurn}
 use Rattle.image.specs.ReadLaws.{Reads, ends}
@@ -73,7 +77,7 @@ module _ (t : Table) (formed : Formed t) (shape : Shaped t) where
 
   count-leads : Leads start (objectsStage 0) (row Count (t .count ∷ []) ∷ [])
   unfolding start fitsRecord withRecord
-  count-leads = leads-one Count (t .count ∷ []) refl refl (most-fits (t .count) (shape .count), tt) (shape .count) (λ now x at. (
+  count-leads = leads-one Count (t .count ∷ []) refl refl (omega (arith, leb-true (t .count) EVENTS (shape .count))) (shape .count) (λ now x at. (
     in-turn now Count (t .count ∷ []) (at .first) (at .last),
     record {
       first = omega arith;
@@ -134,8 +138,8 @@ module _ (t : Table) (formed : Formed t) (shape : Shaped t) where
 
   -- after a node's roots comes the next node's, and after the last everything else
   roots-turns : (p : ℕ) (b : Bool)
-      → ((if b then turn (position 2 p + 1) (position 2 p + 1) else turn (position 3 0) (position 6 0)) .first ≤ (if b then position 2 (suc p) else position 3 0))
-      × ((if b then position 2 (suc p) else position 6 0) ≤ (if b then turn (position 2 p + 1) (position 2 p + 1) else turn (position 3 0) (position 6 0)) .last)
+      → let next : Turn = if b then turn (position 2 p + 1) (position 2 p + 1) else turn (position 3 0) (position 6 0) in
+      (next .first ≤ (if b then position 2 (suc p) else position 3 0)) × ((if b then position 2 (suc p) else position 6 0) ≤ next .last)
   roots-turns p true = (omega arith, omega arith)
   roots-turns p false = (omega arith, omega arith)
 
@@ -154,7 +158,8 @@ module _ (t : Table) (formed : Formed t) (shape : Shaped t) where
           holds = record {
             count = at .holds .count;
             objects = at .holds .objects;
-            roots = rw (add-one p) at (filled-set (at .holds .roots) _ (rw (length-replicate {A = Roots} NODES (record { at = replicate ROOTS NONE })) lt) is);
+            roots = rw (add-one p) at (filled-set (at .holds .roots) _
+                (rw (length-replicate {A = Roots} NODES (record { at = replicate ROOTS NONE })) lt) is);
             cells = at .holds .cells;
             air = at .holds .air;
           };
@@ -163,12 +168,9 @@ module _ (t : Table) (formed : Formed t) (shape : Shaped t) where
 
   -- ---- directories
 
-  owner-small : (o : ℕ) → o < OBJECTS → owner o < NODES
-  owner-small o lt = omega arith
-
   -- the same with other cells
   with-cells : {io ir is : ℕ} {shown shown′ : ℕ → ℕ → Bool} {x : Table} {cs : List Cell} → Sofar t io ir shown is x → Cells t shown′ cs
-      → Sofar t io ir shown′ is (record { count = x .count; heap = x .heap; cells = cs; air = x .air })
+      → Sofar t io ir shown′ is (withCells x cs)
   with-cells so c = record { count = so .count; objects = so .objects; roots = so .roots; cells = c; air = so .air }
 
   directory-other : (o q a : ℕ) → q < NODES → a < OBJECTS → (a ≡ o → q ≡ owner o → ⊥)
@@ -186,9 +188,10 @@ module _ (t : Table) (formed : Formed t) (shape : Shaped t) where
 
   directory-leads : (o : ℕ) → o < OBJECTS → Leads (directoryStage o) (directoryStage (suc o)) (directoryRecord o (entryAt t (owner o) o))
   unfolding fitsRecord withRecord
-  directory-leads o lt = go (entryAt t (owner o) o) refl (shape .entries (owner o) o (owner-small o lt) lt)
+  directory-leads o lt = go (entryAt t (owner o) o) refl (shape .entries (owner o) o (owner-number lt) lt)
     where
-      go : (e : Entry) → entryAt t (owner o) o ≡ e → fitsEntry (owner o) o e ≡ true → Leads (directoryStage o) (directoryStage (suc o)) (directoryRecord o e)
+      go : (e : Entry) → entryAt t (owner o) o ≡ e → fitsEntry (owner o) o e ≡ true
+          → Leads (directoryStage o) (directoryStage (suc o)) (directoryRecord o e)
       go Absent e fits = leads-none (λ now x at. record {
         first = omega (arith, at .first);
         last = at .last;
@@ -203,10 +206,11 @@ module _ (t : Table) (formed : Formed t) (shape : Shaped t) where
             record {
               first = omega arith;
               last = omega arith;
-              holds = with-cells (at .holds) (cells-set (owner o) o _ (owner-small o lt) lt (directory-other o) (rw (directory-shown o) (is ∙ sym e)) (at .holds .cells));
+              holds = with-cells (at .holds)
+                  (cells-set (owner o) o _ (owner-number lt) lt (directory-other o) (rw (directory-shown o) (is ∙ sym e)) (at .holds .cells));
             },
           ))
-      go (Elsewhere r) e fits = absurd (false≢true (rw (eq-eqb (owner o) (owner o) refl) at (remote-away r (owner o) o fits)))
+      go (Elsewhere r) e fits = absurd (away (owner o) o r fits .elsewhere refl)
 
   -- ---- remote entries
 
@@ -237,7 +241,7 @@ module _ (t : Table) (formed : Formed t) (shape : Shaped t) where
         go (AtOwner d) e fits = leads-none (λ now x at. record {
           first = omega (arith, at .first);
           last = at .last;
-          holds = with-cells (at .holds) (cells-keep p o remote-other (rw (eq-eqb p (owner o) (directory-at d o p fits)) refl) (at .holds .cells));
+          holds = with-cells (at .holds) (cells-keep p o remote-other (rw (eq-eqb p (owner o) (home p o d fits .own)) refl) (at .holds .cells));
         })
         go (Elsewhere r) e fits =
             leads-one Remote (remoteNumbers r p o) refl refl (remote-fit r p o fits lp lo) (remote-fits r p o fits lp lo)
@@ -246,7 +250,8 @@ module _ (t : Table) (formed : Formed t) (shape : Shaped t) where
               record {
                 first = omega arith;
                 last = omega arith;
-                holds = with-cells (at .holds) (cells-set p o _ lp lo remote-other (rw remote-shown (remote-is r p o fits ∙ sym e)) (at .holds .cells));
+                holds = with-cells (at .holds)
+                    (cells-set p o _ lp lo remote-other (rw remote-shown (remote-is r p o fits ∙ sym e)) (at .holds .cells));
               },
             ))
 
@@ -262,7 +267,7 @@ module _ (t : Table) (formed : Formed t) (shape : Shaped t) where
     where
       -- the message is in its place
       placed : (x : Table) (held : Message) → messageAt t s ≡ held → Sofar t OBJECTS NODES (λ p o. true) s x
-          → Sofar t OBJECTS NODES (λ p o. true) (suc s) (record { count = x .count; heap = x .heap; cells = x .cells; air = set (x .air) s (record { held = held }) })
+          → Sofar t OBJECTS NODES (λ p o. true) (suc s) (withMessage x s held)
       placed x held e so = record {
         count = so .count;
         objects = so .objects;
@@ -291,9 +296,9 @@ module _ (t : Table) (formed : Formed t) (shape : Shaped t) where
           ))
       go (m.Decrement from to o k n) e fits =
           let is = decrement-is from to o k n fits s in
-          leads-one Decrement (decrementNumbers from to o k n fits s) refl refl (decrement-fit from to o k n fits s lt) (rw (lt-ltb s PLACES lt, is) fits)
+          leads-one Decrement (decrementNumbers from to o k n s) refl refl (decrement-fit from to o k n fits s lt) (rw (lt-ltb s PLACES lt, is) fits)
           (λ now x at. (
-            in-turn now Decrement (decrementNumbers from to o k n fits s) (at .first) (omega (arith, at .last)),
+            in-turn now Decrement (decrementNumbers from to o k n s) (at .first) (omega (arith, at .last)),
             record { first = omega arith; last = omega arith; holds = rw is (placed x (m.Decrement from to o k n) e (at .holds)) },
           ))
 
@@ -302,12 +307,10 @@ module _ (t : Table) (formed : Formed t) (shape : Shaped t) where
   -- when all is read, the table is whole
   whole : (x : Table) → Sofar t OBJECTS NODES (λ p o. true) PLACES x → x ≡ t
   whole x so =
-      let objects = ext-getD noObject (x .heap .objects) (t .heap .objects) (so .objects .size ∙ length-replicate OBJECTS idle ∙ sym (formed .objects))
-      (λ k lt. so .objects .below k (omega (arith, so .objects .size, length-replicate OBJECTS idle))) in
-      let roots = ext-getD noRoots (x .heap .roots) (t .heap .roots) (so .roots .size ∙ length-replicate {A = Roots} NODES fresh ∙ sym (formed .nodes))
-      (λ k lt. so .roots .below k (omega (arith, so .roots .size, length-replicate {A = Roots} NODES fresh))) in
-      let air = ext-getD noPlace (x .air) (t .air) (so .air .size ∙ length-replicate PLACES noPlace ∙ sym (formed .places))
-      (λ k lt. so .air .below k (omega (arith, so .air .size, length-replicate PLACES noPlace))) in
+      let objects =
+      filled-all (so .objects) OBJECTS (fresh-formed .objects) (le-refl OBJECTS) ∙ list-back noObject OBJECTS (t .heap .objects) (formed .objects) in
+      let roots = filled-all (so .roots) NODES (fresh-formed .nodes) (le-refl NODES) ∙ list-back noRoots NODES (t .heap .roots) (formed .nodes) in
+      let air = filled-all (so .air) PLACES (fresh-formed .places) (le-refl PLACES) ∙ list-back noPlace PLACES (t .air) (formed .places) in
       let cells = cells-all formed (λ p o lp lo. refl) (so .cells) in
       ap (λ (n : ℕ). made n (x .heap .objects) (x .heap .roots) (x .cells) (x .air)) (so .count)
       ∙ ap (λ (l : List Object). made (t .count) l (x .heap .roots) (x .cells) (x .air)) objects
@@ -315,9 +318,6 @@ module _ (t : Table) (formed : Formed t) (shape : Shaped t) where
       ∙ ap (λ (l : List Cell). made (t .count) (t .heap .objects) (t .heap .roots) l (x .air)) cells
       ∙ ap (λ (l : List Place). made (t .count) (t .heap .objects) (t .heap .roots) (t .cells) l) air
     where
-      fresh : Roots
-      fresh = record { at = replicate ROOTS NONE }
-
       made : ℕ → List Object → List Roots → List Cell → List Place → Table
       made n os rs cs as′ = record { count = n; heap = record { objects = os; roots = rs }; cells = cs; air = as′ }
 
@@ -327,7 +327,8 @@ module _ (t : Table) (formed : Formed t) (shape : Shaped t) where
   no-directories = cells-same (λ p o lp lo. rw (le-ltb o 0 (omega arith)) refl)
 
   all-directories : {cs : List Cell} → Cells t (directoriesBelow OBJECTS) cs → Cells t (entriesBelow (256 * 0 + 0)) cs
-  all-directories = cells-same (λ p o lp lo. rw (lt-ltb o OBJECTS lo, le-ltb (256 * p + o) 0 (omega arith)) (or-false (eqb p (owner o)) (entryAt t p o)))
+  all-directories = cells-same (λ p o lp lo.
+      rw (lt-ltb o OBJECTS lo, le-ltb (256 * p + o) 0 (omega arith)) (or-false (eqb p (owner o)) (entryAt t p o)))
     where
       or-false : (b : Bool) (e : Entry) → shownOf b e ≡ shownOf (b or false) e
       or-false true e = refl

@@ -6,7 +6,7 @@ use Prim.Native.Nat.{ℕ, zero, suc, _+_, _≤_, _<_}
 use native.Mathlib.Omega.{arith}
 use lib.Dec.{leb, eqb}
 use lib.ListN.{length, length-append}
-use borrow.Author.Tests.{leb-true, not-true}
+use borrow.Author.Tests.{leb-true, ne-eqb}
 use Rattle.terms.specs.Choose.{if_then_else_}
 use Rattle.terms.specs.Counted.{everyFrom, sumFrom, sum, gatherFrom, gather}
 use Rattle.terms.specs.CountedLaws.{every-at}
@@ -14,14 +14,15 @@ use Rattle.terms.specs.Limits.{NODES, OBJECTS, PLACES, owner}
 use Rattle.entry.specs.declared.Entry.{Entry}
 use Rattle.entry.specs.declared.Entry.the-variants.{Absent, AtOwner, Elsewhere}
 use Rattle.entry.specs.Fits.{fitsEntry}
+use Rattle.entry.specs.FitsLaws.{away}
 use Rattle.heap.specs.Heap.{isLive, fieldsOf}
 use Rattle.table.specs.declared.Message.{Message}
 use Rattle.table.specs.declared.Message.the-variants as m
 use Rattle.table.specs.declared.Table.{Table}
 use Rattle.table.specs.Shape.{fitsTable}
+use Rattle.table.specs.ShapeLaws.{Shaped, shaped}
 use Rattle.table.specs.Table.{entryAt, messageAt}
 use Rattle.image.specs.declared.RecordKind.the-variants.{Count, Live, End}
-use Rattle.image.specs.ContentLaws.{Shaped, shaped, remote-away}
 use Rattle.image.specs.ReadLaws.{bytes-append}
 use Rattle.image.specs.Records.{Record, row}
 use Rattle.image.specs.Writer.{objectRecord, rootsRecord, directoryRecord, remoteRecord, messageRecord, recordsOf, bytesOfAll, image}
@@ -65,7 +66,7 @@ module _ (t : Table) (shape : Shaped t) where
   unfolding bytesOfAll
   remote-size p o Absent fits = omega arith
   remote-size p o (AtOwner d) fits = omega arith
-  remote-size p o (Elsewhere r) fits = rw (not-true (eqb p (owner o)) (remote-away r p o fits)) (omega arith)
+  remote-size p o (Elsewhere r) fits = rw (ne-eqb p (owner o) (away p o r fits .elsewhere)) (omega arith)
 
   -- a node has entries of the 56 objects of others
   remotes-most : (p : ℕ) → p < NODES → sum OBJECTS (remoteMost p) ≤ 1120

@@ -9,7 +9,8 @@ use Rattle.image.specs.declared.RecordKind.{RecordKind}
 use Rattle.image.specs.declared.RecordKind.the-variants.{Count, Live, NodeRoots, Directory, Remote, Reference, Decrement, End, Unknown}
 use Rattle.image.specs.Content.{number}
 use Rattle.image.specs.Order.{position, positionOf}
-use Rattle.image.specs.Spots.{Spot, count, object, roots, directory, remote, message, spotOf, spotPosition, Takes, small, remote-tests}
+use Rattle.image.specs.Spots.{Spot, count, object, roots, directory, remote, message, spotOf, spotPosition}
+use Rattle.image.specs.Takes.{Takes, small, remote-tests}
 
 -- the spot of a section and a key
 spotFrom : ℕ → ℕ → Spot

@@ -9,22 +9,25 @@ use native.Mathlib.Omega.{arith}
 use lib.Dec.{ltb, leb}
 use lib.ListN.{length}
 use borrow.Author.Tests.{leb-true}
-use Rattle.terms.specs.Choose.{if_then_else_}
-use Rattle.terms.specs.ChooseLaws.{and-passes}
+use Rattle.terms.specs.ChooseLaws.{and-passes, either-way}
 use Rattle.terms.specs.Limits.{NODES, owner}
 use Rattle.table.specs.declared.Table.{Table}
+use Rattle.table.specs.Fresh.{fresh-entry, fresh-message, fresh-object}
+use Rattle.table.specs.Good.{Good, good-formed, good-shaped}
+use Rattle.table.specs.ShapeLaws.{owner-number}
 use Rattle.table.specs.Table.{freshTable}
 use Rattle.image.specs.declared.RecordKind.{RecordKind}
 use Rattle.image.specs.declared.RecordKind.the-variants.{Count, Live, NodeRoots, Directory, Remote, Reference, Decrement, End, Unknown}
 use Rattle.image.specs.declared.Turn.{Turn}
 use Rattle.image.specs.Content.{number, withRecord}
-use Rattle.image.specs.Keeps.{Good, keeps, fresh-object, fresh-entry, fresh-message}
-use Rattle.image.specs.Order.{position, positionOf, turn, firstTurn, turnAfter, inTurn}
+use Rattle.image.specs.Keeps.{keeps}
+use Rattle.image.specs.Order.{position, positionOf, firstTurn, turnAfter, inTurn}
 use Rattle.image.specs.ReadLaws.{Reads, ends, takes}
 use Rattle.image.specs.Records.{Record, row}
 use Rattle.image.specs.SpotOrder.{position-spot, spot-unique, before-end}
-use Rattle.image.specs.Spots.{Spot, spotOf, spotPosition, recordAt, Takes, spot-other, spot-same, remote-tests, small}
+use Rattle.image.specs.Spots.{Spot, spotOf, spotPosition, recordAt}
 use Rattle.image.specs.Stored.{liveRecord}
+use Rattle.image.specs.Takes.{Takes, spot-other, spot-same, remote-tests, small}
 use Rattle.image.specs.Writer.{directoryRecord, remoteRecord, messageRecord}
 
 -- the first position in turn is no later, and the last no earlier
@@ -37,12 +40,9 @@ in-turn-at now k ns e =
 turn-after : (k : RecordKind) (ns : List ℕ) → Takes k ns → positionOf k ns < turnAfter k ns .first
 turn-after Count ns it = omega arith
 turn-after Live ns it = omega arith
-turn-after NodeRoots ns it = go (ltb (number ns 0 + 1) NODES)
-  where
-    go : (b : Bool) → positionOf NodeRoots ns
-        < (if b then turn (positionOf NodeRoots ns + 1) (positionOf NodeRoots ns + 1) else turn (position 3 0) (position 6 0)) .first
-    go true = omega arith
-    go false = omega (arith, small NodeRoots ns it refl)
+turn-after NodeRoots ns it =
+    either-way (λ (next : Turn). positionOf NodeRoots ns < next .first) (ltb (number ns 0 + 1) NODES)
+    (λ more. omega arith) (omega (arith, small NodeRoots ns it refl))
 turn-after Directory ns it = omega arith
 turn-after Remote ns it = omega arith
 turn-after Reference ns it = omega arith
@@ -51,19 +51,20 @@ turn-after End ns it = absurd (false≢true (sym (it .onward)))
 turn-after Unknown ns it = absurd (false≢true (sym (it .known)))
 
 -- what has been passed stays
-passed-stays : {now : Turn} {t u : Table} {rs : List Record} → Reads now t rs u → Good t → (s : Spot) → spotPosition s < now .first → recordAt u s ≡ recordAt t s
+passed-stays : {now : Turn} {t u : Table} {rs : List Record} → Reads now t rs u → Good t → (s : Spot) → spotPosition s < now .first
+    → recordAt u s ≡ recordAt t s
 passed-stays (ends turns same) good s lt = ap (λ (x : Table). recordAt x s) (sym same)
 passed-stays (takes {now = now} {t = t} k ns go-on known fit turns fits more) good s lt =
     let it : Takes k ns = record { onward = go-on; known = known; fit = fit; allowed = fits } in
     let at = in-turn-at now k ns turns in
     passed-stays more (keeps t good k ns it) s (omega (arith, at .0, turn-after k ns it))
-    ∙ spot-other t (good .formed) (good .shape) k ns it s (λ q. absurd (omega (arith, at .0)))
+    ∙ spot-other t (good-shaped good) k ns it s (λ q. absurd (omega (arith, at .0)))
 
 -- the record taken is in the end table at its spot
 taken-stands : {u t : Table} {rs : List Record} (k : RecordKind) (ns : List ℕ) → Takes k ns → Good t
     → Reads (turnAfter k ns) (withRecord t k ns) rs u → recordAt u (spotOf k ns) ≡ row k ns ∷ []
 taken-stands {u} {t} k ns it good more =
-    passed-stays more (keeps t good k ns it) (spotOf k ns) (rw (position-spot k ns it) (turn-after k ns it)) ∙ spot-same t (good .formed) k ns it
+    passed-stays more (keeps t good k ns it) (spotOf k ns) (rw (position-spot k ns it) (turn-after k ns it)) ∙ spot-same t (good-formed good) k ns it
 
 -- ---- what is still fresh
 
@@ -95,13 +96,9 @@ optional-after r qs at NodeRoots ns it low high = not-roots r qs at (small NodeR
         → turnAfter r qs .first ≤ position 2 (number ns 0) → position 2 (number ns 0) < turnAfter r qs .last → false ≡ true
     not-roots Count qs at lt low high = absurd (omega arith)
     not-roots Live qs at lt low high = absurd (omega arith)
-    not-roots NodeRoots qs at lt low high = go (ltb (number qs 0 + 1) NODES) low high
-      where
-        go : (b : Bool) → (if b then turn (positionOf NodeRoots qs + 1) (positionOf NodeRoots qs + 1) else turn (position 3 0) (position 6 0)) .first ≤ position 2 (number ns 0)
-            → position 2 (number ns 0) < (if b then turn (positionOf NodeRoots qs + 1) (positionOf NodeRoots qs + 1) else turn (position 3 0) (position 6 0)) .last
-            → false ≡ true
-        go true low high = absurd (omega arith)
-        go false low high = absurd (omega arith)
+    not-roots NodeRoots qs at lt low high =
+        either-way (λ (next : Turn). next .first ≤ position 2 (number ns 0) → position 2 (number ns 0) < next .last → false ≡ true)
+        (ltb (number qs 0 + 1) NODES) (λ more from to. absurd (omega arith)) (λ from to. absurd (omega arith)) low high
     not-roots Directory qs at lt low high = absurd (omega arith)
     not-roots Remote qs at lt low high = absurd (omega arith)
     not-roots Reference qs at lt low high = absurd (omega arith)
@@ -121,7 +118,7 @@ ready-after : {now : Turn} {t : Table} → Good t → Ready now t → (r : Recor
 ready-after {now} {t} good ready r qs at low = record {
   optional = optional-after r qs at;
   fresh = λ k ns it le opt.
-      spot-other t (good .formed) (good .shape) r qs at (spotOf k ns) (λ q. absurd (omega (arith, turn-after r qs at, position-spot k ns it)))
+      spot-other t (good-shaped good) r qs at (spotOf k ns) (λ q. absurd (omega (arith, turn-after r qs at, position-spot k ns it)))
       ∙ ready .fresh k ns it (omega (arith, turn-after r qs at)) opt;
 }
 
@@ -141,25 +138,32 @@ not-before : {now : Turn} {t u : Table} {rs rs′ : List Record} (k : RecordKind
 not-before {now} {t} k ns k′ ns′ good ready it it′ low high lt more more′ =
     cons-no (row k ns) [] (sym (taken-stands k ns it good more)
     ∙ passed-stays more′ (keeps t good k′ ns′ it′) (spotOf k ns) (omega (arith, position-spot k ns it, turn-after k′ ns′ it′))
-    ∙ spot-other t (good .formed) (good .shape) k′ ns′ it′ (spotOf k ns) (λ q. absurd (omega (arith, position-spot k ns it)))
+    ∙ spot-other t (good-shaped good) k′ ns′ it′ (spotOf k ns) (λ q. absurd (omega (arith, position-spot k ns it)))
     ∙ ready .fresh k ns it low (ready .optional k ns it low (omega arith)))
 
 -- a record taken where another reading ends cannot be
 not-ended : {now : Turn} {t : Table} {rs : List Record} (k : RecordKind) (ns : List ℕ) → Good t → Ready now t → Takes k ns
     → now .first ≤ positionOf k ns → position 6 0 ≤ now .last → Reads (turnAfter k ns) (withRecord t k ns) rs t → ⊥
 not-ended {now} {t} k ns good ready it low high more =
-    cons-no (row k ns) [] (sym (taken-stands k ns it good more) ∙ ready .fresh k ns it low (ready .optional k ns it low (omega (arith, before-end k ns it))))
+    cons-no (row k ns) [] (sym (taken-stands k ns it good more)
+    ∙ ready .fresh k ns it low (ready .optional k ns it low (omega (arith, before-end k ns it))))
+
+-- so one of two readings of one table does not end where the other goes on
+ended-both : {now : Turn} {t u : Table} {rs : List Record} {k : RecordKind} {ns : List ℕ} → Good t → Ready now t → Takes k ns
+    → inTurn now k ns ≡ true → inTurn now End [] ≡ true → t ≡ u → Reads (turnAfter k ns) (withRecord t k ns) rs u → ⊥
+ended-both {now} {t} {rs = rs} {k = k} {ns = ns} good ready it turns ends-here e more =
+    not-ended k ns good ready it (in-turn-at now k ns turns .0) (in-turn-at now End [] ends-here .1)
+    (subst (λ (x : Table). Reads (turnAfter k ns) (withRecord t k ns) rs x) (sym e) more)
 
 -- two readings of one table from one point on are of the same records
 pub reads-same : {now : Turn} {t u : Table} {rs rs′ : List Record} → Reads now t rs u → Reads now t rs′ u → Good t → Ready now t → rs ≡ rs′
 reads-same (ends turns e) (ends turns′ e′) good ready = refl
-reads-same (ends {now = now} {t = t} turns e) (takes k ns {rs = rs} go-on known fit turns′ fits more) good ready =
-    absurd (not-ended k ns good ready (record { onward = go-on; known = known; fit = fit; allowed = fits })
-    (in-turn-at now k ns turns′ .0) (in-turn-at now End [] turns .1) (subst (λ (x : Table). Reads (turnAfter k ns) (withRecord t k ns) rs x) (sym e) more))
-reads-same (takes {now = now} {t = t} k ns {rs = rs} go-on known fit turns fits more) (ends turns′ e) good ready =
-    absurd (not-ended k ns good ready (record { onward = go-on; known = known; fit = fit; allowed = fits })
-    (in-turn-at now k ns turns .0) (in-turn-at now End [] turns′ .1) (subst (λ (x : Table). Reads (turnAfter k ns) (withRecord t k ns) rs x) (sym e) more))
-reads-same (takes {now = now} {t = t} {u = u} k ns {rs = rs} go-on known fit turns fits more) (takes k′ ns′ {rs = rs′} go-on′ known′ fit′ turns′ fits′ more′) good ready =
+reads-same (ends turns e) (takes k ns go-on known fit turns′ fits more) good ready =
+    absurd (ended-both good ready (record { onward = go-on; known = known; fit = fit; allowed = fits }) turns′ turns e more)
+reads-same (takes k ns go-on known fit turns fits more) (ends turns′ e) good ready =
+    absurd (ended-both good ready (record { onward = go-on; known = known; fit = fit; allowed = fits }) turns turns′ e more)
+reads-same (takes {now = now} {t = t} {u = u} k ns {rs = rs} go-on known fit turns fits more)
+    (takes k′ ns′ {rs = rs′} go-on′ known′ fit′ turns′ fits′ more′) good ready =
     compare (λ other. reads-same more other (keeps t good k ns it) (ready-after good ready k ns it (low .0)))
   where
     it : Takes k ns
@@ -206,7 +210,7 @@ ready-first = record { optional = λ k ns it low high. absurd (omega arith); fre
     nothing NodeRoots ns it opt = absurd (false≢true opt)
     nothing Directory ns it opt =
         let lt = small Directory ns it refl in
-        ap (directoryRecord (number ns 0)) (fresh-entry (owner (number ns 0)) (number ns 0) (omega arith) lt)
+        ap (directoryRecord (number ns 0)) (fresh-entry (owner (number ns 0)) (number ns 0) (owner-number lt) lt)
     nothing Remote ns it opt =
         let tests = remote-tests ns (it .allowed) in
         ap (remoteRecord (number ns 0) (number ns 1)) (fresh-entry (number ns 0) (number ns 1) (tests .node) (tests .object))

@@ -18,8 +18,6 @@ pub mod SoundTest
 pub mod SoundTestLaws
 -- ---- why it holds
 
--- a table taken apart
-pub mod Tables
 -- what an accepted event did, and that it keeps the shape
 pub mod Events
 -- one object's entries and messages: laws A, B and C, and clear means nobody

@@ -23,6 +23,7 @@ use Rattle.table.specs.declared.Message.{Message}
 use Rattle.table.specs.declared.Message.the-variants.{Empty, Reference, Decrement}
 use Rattle.table.specs.declared.Table.{Table}
 use Rattle.table.specs.Shape.{fitsTable}
+use Rattle.table.specs.ShapeLaws.{Shaped, root-object, shaped}
 use Rattle.table.specs.Table.{entryAt, messageAt}
 use Rattle.step.specs.declared.Event.{Event}
 use Rattle.step.specs.declared.Kind.{Kind}
@@ -47,7 +48,6 @@ use Rattle.laws.specs.Heap.HeldAfter.{root-live}
 use Rattle.laws.specs.Heap.Holding.{WellHeld, sound-held}
 use Rattle.laws.specs.Heap.WholeHeap.{collect-whole, new-unlisted, receive-alive, send-alive, send-present}
 use Rattle.laws.specs.Sound.{NeverTorn, Sound}
-use Rattle.laws.specs.Tables.ShapeLaws.{Shaped, root-object, shaped}
 
 -- ---- a list of refusals that does not give one number
 

@@ -6,7 +6,9 @@ use Prim.Native.Nat.{ℕ, _<_}
 use Rattle.terms.specs.Limits.{OBJECTS}
 use Rattle.table.specs.declared.Table.{Table}
 use Rattle.table.specs.Formed.{Formed}
+use Rattle.table.specs.Fresh.{fresh-formed, fresh-shape}
 use Rattle.table.specs.Shape.{fitsTable}
+use Rattle.table.specs.ShapeLaws.{reference-way, decrement-way, shaped}
 use Rattle.step.specs.Step.{step}
 use Rattle.laws.specs.Counting.ClearLaws.{clear-means-nobody}
 use Rattle.laws.specs.Counting.CountsKept.{Counted, counted-fresh, counted-kept, counted-lawful, counted-within}
@@ -16,7 +18,7 @@ use Rattle.laws.specs.Counting.LinkCollect.{change}
 use Rattle.laws.specs.Counting.Within.{Within}
 use Rattle.laws.specs.Events.DidLaws.{count-after}
 use Rattle.laws.specs.Events.KeepsShape.{keeps-form, keeps-shape}
-use Rattle.laws.specs.Events.Kept.{Keeps, always, fresh-formed, fresh-shape}
+use Rattle.laws.specs.Events.Kept.{Keeps, always}
 use Rattle.laws.specs.Heap.FreshHeld.{fresh-held}
 use Rattle.laws.specs.Heap.HeldAfter.{held-after}
 use Rattle.laws.specs.Heap.Holding.{WellHeld, sound-held}
@@ -24,7 +26,6 @@ use Rattle.laws.specs.Heap.Nobody.{Bridge}
 use Rattle.laws.specs.NotTorn.{CountsWhole}
 use Rattle.laws.specs.Sequence.{Always}
 use Rattle.laws.specs.Sound.{Sound}
-use Rattle.laws.specs.Tables.ShapeLaws.{reference-way, decrement-way, shaped}
 
 -- ---- Sound is the shape, the counts' part and the heap's part
 

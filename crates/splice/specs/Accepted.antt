@@ -14,11 +14,13 @@ use Rattle.heap.specs.Heap.{objectAt, rootsAt}
 use Rattle.table.specs.declared.Message.{Message}
 use Rattle.table.specs.declared.Message.the-variants as m
 use Rattle.table.specs.declared.Table.{Table}
+use Rattle.table.specs.Formed.{Formed}
+use Rattle.table.specs.Good.{Good, good-formed, good-shape, good-shaped}
 use Rattle.table.specs.Shape.{fitsTable}
+use Rattle.table.specs.ShapeLaws.{Shaped}
 use Rattle.table.specs.Table.{entryAt, isEmpty, messageAt}
 use Rattle.image.specs.BytesLaws.{AreBytes}
 use Rattle.image.specs.Find.{offset, seen, heldOf, sizeOf, foundFrom, countIn, objectIn, rootsIn, entryIn, messageIn}
-use Rattle.image.specs.Keeps.{Good, in-shape}
 use Rattle.image.specs.Reader.{read}
 use Rattle.image.specs.RoundTrip.{read-good, image-read}
 use Rattle.image.specs.Spots.{Spot, count, object, roots, message, spotPosition}
@@ -37,8 +39,14 @@ module _ (l : List ℕ) (are : AreBytes l) (accepted : read l .answer ≡ ACCEPT
   good : Good t
   good = read-good l are accepted
 
+  formed : Formed t
+  formed = good-formed good
+
   fits : fitsTable t ≡ true
-  fits = in-shape t (good .shape)
+  fits = good-shape good
+
+  shape : Shaped t
+  shape = good-shaped good
 
   same : image t ≡ l
   same = image-read l are accepted
@@ -46,7 +54,7 @@ module _ (l : List ℕ) (are : AreBytes l) (accepted : read l .answer ≡ ACCEPT
   -- ---- what it holds
 
   accepted-seen : (s : Spot) → Within s → seen (spotPosition s) l ≡ found (spotPosition s) (recordsOf t)
-  accepted-seen s in′ = ap (seen (spotPosition s)) (sym same) ∙ seen-found t (good .formed) fits s in′
+  accepted-seen s in′ = ap (seen (spotPosition s)) (sym same) ∙ seen-found t formed fits s in′
 
   -- a scan from the front is told what the table tells
   pub held-told : (s : Spot) → Within s → foundFrom 0 (spotPosition s) l .held ≡ told (spotPosition s) t
@@ -57,16 +65,16 @@ module _ (l : List ℕ) (are : AreBytes l) (accepted : read l .answer ≡ ACCEPT
   count-told = ap countIn (held-told count tt) ∙ count-found t
 
   pub object-told : (o : ℕ) → o < OBJECTS → objectIn (foundFrom 0 (spotPosition (object o)) l .held) ≡ objectAt (t .heap) o
-  object-told o lt = ap objectIn (held-told (object o) lt) ∙ object-found t (good .formed) (good .shape) o lt
+  object-told o lt = ap objectIn (held-told (object o) lt) ∙ object-found t formed shape o lt
 
   pub roots-told : (p : ℕ) → p < NODES → rootsIn (foundFrom 0 (spotPosition (roots p)) l .held) ≡ rootsAt (t .heap) p
-  roots-told p lt = ap rootsIn (held-told (roots p) lt) ∙ roots-found t (good .formed) (good .shape) p lt
+  roots-told p lt = ap rootsIn (held-told (roots p) lt) ∙ roots-found t formed shape p lt
 
   pub entry-told : (p o : ℕ) → p < NODES → o < OBJECTS → entryIn (foundFrom 0 (spotPosition (entrySpot p o)) l .held) ≡ entryAt t p o
-  entry-told p o lp lo = ap entryIn (held-told (entrySpot p o) (entry-within p o lp lo)) ∙ entry-found t (good .shape) p o lp lo
+  entry-told p o lp lo = ap entryIn (held-told (entrySpot p o) (entry-within p o lp lo)) ∙ entry-found t shape p o lp lo
 
   pub message-told : (s : ℕ) → s < PLACES → messageIn (foundFrom 0 (spotPosition (message s)) l .held) ≡ messageAt t s
-  message-told s lt = ap messageIn (held-told (message s) lt) ∙ message-found t (good .formed) (good .shape) s lt
+  message-told s lt = ap messageIn (held-told (message s) lt) ∙ message-found t formed shape s lt
 
   -- ---- where it stands
 
@@ -77,7 +85,7 @@ module _ (l : List ℕ) (are : AreBytes l) (accepted : read l .answer ≡ ACCEPT
   place-told s in′ =
       let n : ℕ = spotPosition s in
       let next =
-      subst (λ (x : List ℕ). offset (suc n) x ≡ offset n x + length (bytesOfAll (seen n x))) same (offset-after t (good .formed) fits s in′) in
+      subst (λ (x : List ℕ). offset (suc n) x ≡ offset n x + length (bytesOfAll (seen n x))) same (offset-after t formed fits s in′) in
       let size : sizeOf (heldOf (seen n l)) ≡ length (bytesOfAll (seen n l)) = rw (accepted-seen s in′) (size-found t s in′) in
       (omega arith, omega arith)
 

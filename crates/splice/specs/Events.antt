@@ -10,17 +10,16 @@ use Rattle.heap.specs.declared.Object.{Object}
 use Rattle.heap.specs.declared.Roots.{Roots}
 use Rattle.heap.specs.Heap.{withObject, withRoot}
 use Rattle.table.specs.declared.Message.{Message}
-use Rattle.table.specs.declared.Message.the-variants as m
 use Rattle.table.specs.declared.Table.{Table}
 use Rattle.table.specs.Formed.{Formed}
 use Rattle.table.specs.Table.{entryAt, withCount, withEntry, withHeap, withMessage}
 use Rattle.image.specs.declared.RecordKind.the-variants.{Count}
+use Rattle.image.specs.OneSpot.{count-only, object-only, object-here, roots-only, roots-here, message-only, message-here}
 use Rattle.image.specs.Records.{row}
 use Rattle.image.specs.Spots.{count, object, roots, directory, message, spotPosition}
 use Rattle.image.specs.Stored.{liveRecord, nodeRecord}
 use Rattle.image.specs.Writer.{messageRecord}
-use Rattle.splice.specs.Changed.{count-only, object-only, object-here, rootsWith, root-only, root-here, message-only, message-here}
-use Rattle.splice.specs.Changed.{entrySpot, entryRecord, Proper, entry-within, entry-between, entry-here, entry-only}
+use Rattle.splice.specs.Changed.{rootsWith, entrySpot, entryRecord, Proper, entry-within, entry-between, entry-here, entry-only}
 use Rattle.splice.specs.Patched.{Change, change, Differs}
 
 -- ---- the changes
@@ -48,8 +47,8 @@ module _ (t : Table) (formed : Formed t) (n : ℕ) where
       → Differs (countTo n ∷ rootsTo p (rootsWith t p r x) ∷ []) t (withCount (withHeap t (withRoot (t .heap) p r x)) n)
   root-differs p r x lp = record {
     ascends = (omega arith, (tt, (omega arith, (lp, tt))));
-    stands = (refl, (root-here t p r x (formed .nodes) lp, tt));
-    same = λ y out. count-only (withHeap t (withRoot (t .heap) p r x)) n y (out .0) ∙ root-only t p r x y (out .1 .0);
+    stands = (refl, (roots-here t p (rootsWith t p r x) (formed .nodes) lp, tt));
+    same = λ y out. count-only (withHeap t (withRoot (t .heap) p r x)) n y (out .0) ∙ roots-only t p (rootsWith t p r x) y (out .1 .0);
   }
 
   -- STORE: an object, one field of it
@@ -67,12 +66,15 @@ module _ (t : Table) (formed : Formed t) (n : ℕ) where
       (withCount (withHeap t (withRoot (withObject (t .heap) o x) p r o)) n)
   both-differ p r o x lp lo = record {
     ascends = (omega arith, (tt, (omega arith, (lo, (omega arith, (lp, tt))))));
-    stands = (refl, (object-here t o x (formed .objects) lo, (root-here (withHeap t (withObject (t .heap) o x)) p r o (formed .nodes) lp, tt)));
+    stands = (refl, (object-here t o x (formed .objects) lo, (roots-here (withHeap t (withObject (t .heap) o x)) p rooted (formed .nodes) lp, tt)));
     same = λ y out.
         count-only (withHeap t (withRoot (withObject (t .heap) o x) p r o)) n y (out .0)
-        ∙ root-only (withHeap t (withObject (t .heap) o x)) p r o y (out .1 .1 .0)
+        ∙ roots-only (withHeap t (withObject (t .heap) o x)) p rooted y (out .1 .1 .0)
         ∙ object-only t o x y (out .1 .0);
   }
+    where
+      rooted : Roots
+      rooted = rootsWith t p r o
 
 -- ---- entries and messages
 
@@ -117,10 +119,10 @@ module _ (t : Table) (formed : Formed t) (n p o : ℕ) (lp : p < NODES) (lo : o 
       stands = (
         refl,
         (
-          root-here t p r o (formed .nodes) lp,
+          roots-here t p (rootsWith t p r o) (formed .nodes) lp,
           (
             count-only rooted n (entrySpot p o) (λ q. absurd (omega (arith, place .0)))
-                ∙ root-only mid p r o (entrySpot p o) (λ q. absurd (omega (arith, place .0)))
+                ∙ roots-only mid p (rootsWith mid p r o) (entrySpot p o) (λ q. absurd (omega (arith, place .0)))
                 ∙ message-only (withEntry t p o e) s x (entrySpot p o) (λ q. absurd (omega (arith, place .1)))
                 ∙ entry-here t formed p o lp lo e,
             (message-here (withEntry t p o e) s x (formed .places) ls, tt),
@@ -129,7 +131,7 @@ module _ (t : Table) (formed : Formed t) (n p o : ℕ) (lp : p < NODES) (lo : o 
       );
       same = λ y out.
           count-only rooted n y (out .0)
-          ∙ root-only mid p r o y (out .1 .0)
+          ∙ roots-only mid p (rootsWith mid p r o) y (out .1 .0)
           ∙ message-only (withEntry t p o e) s x y (out .1 .1 .1 .0)
           ∙ entry-only t formed p o lp lo e was is y (out .1 .1 .0);
     }

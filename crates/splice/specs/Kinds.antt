@@ -1,7 +1,7 @@
 -- The changes of each kind of event but COLLECT, as its rule makes them (document 01, "Events"). MOVE, CLEAR and LOAD are root-differs of
 -- Events.antt as it stands. Assumes nothing.
 use mathlib.Core.Path.{_≡_, refl}
-use mathlib.Core.Bool.{Bool, true, false, false≢true}
+use mathlib.Core.Bool.{Bool, true, false}
 use mathlib.Core.List.{[], _∷_}
 use Prim.Native.Nat.{ℕ, _<_}
 use native.Mathlib.Omega.{arith}
@@ -18,13 +18,14 @@ use Rattle.entry.specs.declared.Entry.the-variants.{Absent, AtOwner, Elsewhere}
 use Rattle.entry.specs.Acts.{firstSent}
 use Rattle.entry.specs.AtNode.{done, torn, sent, received, settled}
 use Rattle.entry.specs.Fits.{fitsEntry}
+use Rattle.entry.specs.FitsLaws.{away}
 use Rattle.heap.specs.declared.Object.{Object}
 use Rattle.heap.specs.Heap.{born, freeOwn, isLive, objectAt, withField}
 use Rattle.table.specs.declared.Message.the-variants.{Empty, Reference}
 use Rattle.table.specs.declared.Table.{Table}
 use Rattle.table.specs.Formed.{Formed}
+use Rattle.table.specs.ShapeLaws.{Shaped}
 use Rattle.table.specs.Table.{emptyPlace, entryAt, withCount, withEntry, withHeap, withMessage}
-use Rattle.image.specs.ContentLaws.{Shaped, remote-away}
 use Rattle.image.specs.Writer.{remoteRecord}
 use Rattle.step.specs.Drop.{lastWords}
 use Rattle.step.specs.New.{chosen, withNew}
@@ -39,10 +40,6 @@ use Rattle.splice.specs.Patched.{Differs}
 -- ---- no act makes a remote entry at the owner
 
 module _ (p o : ℕ) where
-  -- where it fits there is none already
-  never : (r : Remote) → fitsEntry p o (Elsewhere r) ≡ true → p ≡ owner o → ⊥
-  never r fits at = false≢true (rw (eq-eqb p (owner o) at) at (remote-away r p o fits))
-
   nothing-proper : Proper p o Absent
   nothing-proper at = refl
 
@@ -54,19 +51,19 @@ module _ (p o : ℕ) where
       go true = refl
       go false = refl
   sent-proper q (AtOwner d) fits at = refl
-  sent-proper q (Elsewhere r) fits at = absurd (never r fits at)
+  sent-proper q (Elsewhere r) fits at = absurd (away p o r fits .elsewhere at)
 
   received-proper : (from : ℕ) (e : Entry) → fitsEntry p o e ≡ true → Proper p o (received from p o e .entry)
   unfolding received
   received-proper from Absent fits at = rw (eq-eqb p (owner o) at)
   received-proper from (AtOwner d) fits at = refl
-  received-proper from (Elsewhere r) fits at = absurd (never r fits at)
+  received-proper from (Elsewhere r) fits at = absurd (away p o r fits .elsewhere at)
 
   settled-proper : (k : ReturnCount) (n : Weight) (e : Entry) → fitsEntry p o e ≡ true → Proper p o (settled k n e .entry)
   unfolding settled
   settled-proper k n Absent fits at = refl
   settled-proper k n (AtOwner d) fits at = refl
-  settled-proper k n (Elsewhere r) fits at = absurd (never r fits at)
+  settled-proper k n (Elsewhere r) fits at = absurd (away p o r fits .elsewhere at)
 
 -- ---- the events
 

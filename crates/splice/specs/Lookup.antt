@@ -6,12 +6,13 @@ use mathlib.Core.List.{[], _∷_}
 use Prim.Native.Nat.{ℕ, _<_}
 use lib.Dec.{eqb}
 use lib.ListN.{length}
-use borrow.Author.Tests.{eq-eqb, not-true}
+use borrow.Author.Tests.{eq-eqb, ne-eqb}
 use Rattle.terms.specs.Choose.{if_then_else_}
 use Rattle.terms.specs.Limits.{NODES, OBJECTS, PLACES, owner}
 use Rattle.entry.specs.declared.Entry.{Entry}
 use Rattle.entry.specs.declared.Entry.the-variants.{Absent, AtOwner, Elsewhere}
 use Rattle.entry.specs.Fits.{fitsEntry}
+use Rattle.entry.specs.FitsLaws.{away, home}
 use Rattle.heap.specs.declared.Object.{Object}
 use Rattle.heap.specs.Heap.{isLive, objectAt, rootsAt, fieldsOf}
 use Rattle.table.specs.declared.Message.{Message}
@@ -19,10 +20,11 @@ use Rattle.table.specs.declared.Message.the-variants as m
 use Rattle.table.specs.declared.Table.{Table}
 use Rattle.table.specs.Formed.{Formed}
 use Rattle.table.specs.Shape.{fitsMessage}
+use Rattle.table.specs.ShapeLaws.{Shaped}
 use Rattle.table.specs.Table.{entryAt, messageAt}
 use Rattle.image.specs.declared.Held.{Held}
 use Rattle.image.specs.declared.RecordKind.the-variants.{Live}
-use Rattle.image.specs.ContentLaws.{Shaped, idle-is, live-is, roots-is, directory-is, directory-at, remote-is, remote-away, decrement-is}
+use Rattle.image.specs.ContentLaws.{idle-is, live-is, roots-is, directory-is, remote-is, decrement-is}
 use Rattle.image.specs.Find.{heldOf, sizeOf, countIn, objectIn, rootsIn, entryIn, messageIn}
 use Rattle.image.specs.Records.{row}
 use Rattle.image.specs.Spots.{Spot, count, object, roots, directory, remote, message, spotPosition, recordAt}
@@ -71,8 +73,8 @@ entry-back p o Absent fits = go (eqb p (owner o))
     go : (b : Bool) → entryIn (heldOf (if b then [] else [])) ≡ Absent
     go true = refl
     go false = refl
-entry-back p o (AtOwner d) fits = rw (eq-eqb p (owner o) (directory-at d o p fits)) (directory-is d o p fits)
-entry-back p o (Elsewhere r) fits = rw (not-true (eqb p (owner o)) (remote-away r p o fits)) (remote-is r p o fits)
+entry-back p o (AtOwner d) fits = rw (eq-eqb p (owner o) (home p o d fits .own)) (directory-is d o p fits)
+entry-back p o (Elsewhere r) fits = rw (ne-eqb p (owner o) (away p o r fits .elsewhere)) (remote-is r p o fits)
 
 pub entry-found : (t : Table) → Shaped t → (p o : ℕ) → p < NODES → o < OBJECTS → entryIn (told (spotPosition (entrySpot p o)) t) ≡ entryAt t p o
 entry-found t shape p o lp lo =

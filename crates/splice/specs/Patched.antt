@@ -170,7 +170,3 @@ differs-records {cs} {t} {u} d =
     sym (from-zero (recordsOf u))
     ∙ patched-from t u 0 cs (d .ascends) (d .stands) (λ x le out. d .same x out)
     ∙ ap (patched cs) (from-zero (recordsOf t))
-
--- the tables agree at all other positions than that of the spot
-abbrev pub OnlyAt : Spot → Table → Table → Type 0
-OnlyAt s t u = (x : Spot) → (spotPosition x ≡ spotPosition s → ⊥) → recordAt u x ≡ recordAt t x

@@ -1,5 +1,10 @@
 pub mod Depth
 pub mod DepthLaws
 pub mod Formed
+pub mod Fresh
+pub mod Good
+pub mod NewOrSame
 pub mod Shape
+pub mod ShapeLaws
 pub mod Table
+pub mod TableLaws

@@ -14,6 +14,7 @@ use Rattle.entry.specs.declared.Remote.{Remote}
 use Rattle.entry.specs.declared.Entry.{Entry}
 use Rattle.entry.specs.declared.Entry.the-variants.{Absent, AtOwner, Elsewhere}
 use Rattle.entry.specs.Entry.{isAbsent, rcOf, weightUnder}
+use Rattle.entry.specs.FitsLaws.{away}
 use Rattle.counting.specs.Under.{weight-counted, height, height-falls, height-bound}
 use Rattle.table.specs.declared.Depth.{Depth}
 use Rattle.table.specs.declared.Depth.the-variants.{Steps, NotReached}
@@ -21,6 +22,7 @@ use Rattle.table.specs.declared.Table.{Table}
 use Rattle.table.specs.Depth.{further, onward, depthBy, depthNumber, depthReport}
 use Rattle.table.specs.DepthLaws.{depthBy-owner, depthBy-onward, depthBy-bound}
 use Rattle.table.specs.Shape.{fitsTable}
+use Rattle.table.specs.ShapeLaws.{shaped}
 use Rattle.table.specs.Table.{entryAt}
 use Rattle.laws.specs.Counting.Counts.{under-own, under-parent}
 use Rattle.laws.specs.Counting.Lawful.{rules, share, Lawful}
@@ -28,8 +30,6 @@ use Rattle.laws.specs.Counting.LawfulKept.{total-is}
 use Rattle.laws.specs.LawA.{LawA}
 use Rattle.laws.specs.LawB.{LawB}
 use Rattle.laws.specs.LawC.{LawC}
-use Rattle.laws.specs.Tables.ShapeLaws.{shaped}
-use Rattle.laws.specs.Tables.Spot.{remote-fits}
 
 -- a count stands in an entry
 counted-stands : (e : Entry) → 0 < rcOf e → isAbsent e ≡ false
@@ -77,8 +77,8 @@ module _ (t : Table) (o : ℕ) (shape : fitsTable t ≡ true) (lo : o < OBJECTS)
         → (r .parent < NODES) × (height (rules o) (share t o) lawful (r .parent) < height (rules o) (share t o) lawful p)
         × (isAbsent (entryAt t (r .parent) o) ≡ false)
     parent-below p lp r here =
-        let fits = remote-fits p o r (rw here at (shaped t shape .entries p o lp lo)) in
-        let weighs : 0 < weightUnder (r .parent) (entryAt t p o) = rw (here, under-own r) (fits .weighs) in (
+        let fits = away p o r (rw here at (shaped t shape .entries p o lp lo)) .parts in
+        let weighs : 0 < weightUnder (r .parent) (entryAt t p o) = rw (here, under-own r) (fits .positive) in (
           fits .parent,
           height-falls (rules o) (share t o) lawful p (r .parent) lp (fits .parent) weighs,
           counted-stands (entryAt t (r .parent) o) (omega (arith, weight-counted (rules o) (share t o) lawful p (r .parent) lp (fits .parent))),

@@ -17,12 +17,14 @@ use Rattle.entry.specs.declared.Entry.{Entry}
 use Rattle.entry.specs.declared.Entry.the-variants.{Absent, AtOwner, Elsewhere}
 use Rattle.entry.specs.Entry.{isAbsent, isClear, isNone, isRemote, msgCtrOf, rcOf, weightUnder}
 use Rattle.entry.specs.Fits.{fitsEntry}
+use Rattle.entry.specs.FitsLaws.{away, home}
 use Rattle.counting.specs.Bridge.{clear-nobody, nobody-clear}
 use Rattle.counting.specs.Rules.{Shaped}
 use Rattle.table.specs.declared.Message.{Message}
 use Rattle.table.specs.declared.Message.the-variants.{Empty, Reference, Decrement}
 use Rattle.table.specs.declared.Table.{Table}
 use Rattle.table.specs.Shape.{fitsMessage, fitsTable}
+use Rattle.table.specs.ShapeLaws.{decrement-fits, owner-number, reference-fits, shaped}
 use Rattle.table.specs.Table.{entryAt, messageAt}
 use Rattle.laws.specs.Counting.Change.{isOf}
 use Rattle.laws.specs.Counting.Counts.{foreign, none-is, under-own}
@@ -30,8 +32,6 @@ use Rattle.laws.specs.Counting.Lawful.{rules, share, Lawful}
 use Rattle.laws.specs.Heap.Nobody.{Nobody}
 use Rattle.laws.specs.LawA.{airUnder}
 use Rattle.laws.specs.LawB.{isHomeward, returnsIn}
-use Rattle.laws.specs.Tables.ShapeLaws.{decrement-fits, owner-number, reference-fits, shaped}
-use Rattle.laws.specs.Tables.Spot.{directory-at, remote-fits}
 
 -- ---- single entries and messages
 
@@ -41,7 +41,7 @@ module _ (o : ℕ) where
   hangs p Absent fits remote = absurd (false≢true remote)
   hangs p (AtOwner d) fits remote = absurd (false≢true remote)
   hangs p (Elsewhere e) fits remote =
-      let f = remote-fits p o e fits in (e .parent, f .parent, rw (under-own e) (f .weighs))
+      let f = away p o e fits .parts in (e .parent, f .parent, rw (under-own e) (f .positive))
 
   -- an entry that isn't remote weighs nothing
   pub hangs-not : (e : Entry) (q : ℕ) → isRemote e ≡ false → weightUnder q e ≡ 0
@@ -52,7 +52,7 @@ module _ (o : ℕ) where
   -- away from the owner, an entry is remote, or there is none
   away-entry : (p : ℕ) (e : Entry) → fitsEntry p o e ≡ true → p ≢ owner o → (isRemote e ≡ true) ⊎ (e ≡ Absent)
   away-entry p Absent fits away = inr refl
-  away-entry p (AtOwner d) fits away = absurd (away (directory-at p o d fits))
+  away-entry p (AtOwner d) fits away = absurd (away (home p o d fits .own))
   away-entry p (Elsewhere e) fits away = inl refl
 
   -- a message that adds to no law isn't of this object
@@ -66,7 +66,7 @@ module _ (o : ℕ) where
       go true true air home = absurd (true≢false home)
       go true false air home = let counted = rw (eq-eqb from from refl) at air in absurd (omega arith)
   unheard (Decrement from to x m n) fits air home =
-      let f = decrement-fits from to x m n fits in go (eqb x o) (f .weighs) (air to (f .path .receiver))
+      let f = decrement-fits from to x m n fits in go (eqb x o) (f .positive) (air to (f .path .receiver))
     where
       go : (mine : Bool) → 0 < n .0 → (if mine and eqb to to then n .0 else 0) ≡ 0 → mine ≡ false
       go true weighs air = let counted = rw (eq-eqb to to refl) at air in absurd (omega arith)
@@ -76,7 +76,7 @@ module _ (o : ℕ) where
   weighty : (x : Message) → fitsMessage x ≡ true → Some NODES (λ p. 0 < airUnder p o x) ⊎ (returnsIn o x ≡ pos 0)
   weighty Empty fits = inr refl
   weighty (Reference from to x) fits = inr refl
-  weighty (Decrement from to x m n) fits = let f = decrement-fits from to x m n fits in go (eqb x o) (f .path .receiver) (f .weighs)
+  weighty (Decrement from to x m n) fits = let f = decrement-fits from to x m n fits in go (eqb x o) (f .path .receiver) (f .positive)
     where
       go : (mine : Bool) → to < NODES → 0 < n .0
           → Some NODES (λ p. 0 < (if mine and eqb to p then n .0 else 0)) ⊎ ((if mine then m .0 else pos 0) ≡ pos 0)
@@ -94,7 +94,7 @@ module _ (o : ℕ) where
   counts-clear : (e : Entry) → fitsEntry (owner o) o e ≡ true → rcOf e ≡ 0 → msgCtrOf e ≡ pos 0 → isClear e ≡ true
   counts-clear Absent fits count returns = refl
   counts-clear (AtOwner d) fits count returns = rw (count, returns)
-  counts-clear (Elsewhere e) fits count returns = absurd (remote-fits (owner o) o e fits .away refl)
+  counts-clear (Elsewhere e) fits count returns = absurd (away (owner o) o e fits .elsewhere refl)
 
 -- ---- tables
 

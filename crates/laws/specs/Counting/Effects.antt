@@ -27,10 +27,12 @@ use Rattle.entry.specs.Acts.{directorySent, directoryCameHome, directorySettled
 use Rattle.entry.specs.AtNode.{done, torn, refuses, ofRemote, holderSent, sent, received, settled, setUnused, mayGo}
 use Rattle.entry.specs.Entry.{both, fewer, more, none, weight, weightUnder, msgCtrOf, isNone}
 use Rattle.entry.specs.Fits.{fitsDirectoryReturns, fitsReturns, fitsEntry}
+use Rattle.entry.specs.FitsLaws.{Away, away, home}
 use Rattle.counting.specs.Turned.{Turn}
 use Rattle.table.specs.declared.Message.{Message}
 use Rattle.table.specs.declared.Message.the-variants.{Empty, Reference, Decrement}
 use Rattle.table.specs.Shape.{fitsMessage}
+use Rattle.table.specs.ShapeLaws.{decrement-fits, reference-fits}
 use Rattle.step.specs.Drop.{lastWords}
 use Rattle.step.specs.Receive.{reply}
 use Rattle.laws.specs.Counting.Change.{Act, other, same, sends, receives, settles, unused, drops, clears}
@@ -40,8 +42,6 @@ use Rattle.laws.specs.Counting.Lawful.{rules}
 use Rattle.laws.specs.Counting.Passings.{passes-foreign, passes-still, passes-sent, passes-home, passes-came, passes-answered, passes-settled}
 use Rattle.laws.specs.LawA.{airUnder}
 use Rattle.laws.specs.LawB.{returnsIn}
-use Rattle.laws.specs.Tables.ShapeLaws.{decrement-fits, reference-fits}
-use Rattle.laws.specs.Tables.Spot.{directory-at, RemoteFits, remote-fits}
 
 -- an act that is not refused passed its test
 test-passed : {A : Type 0} (refusal : A → ℕ) (b : Bool) (a c : A) → refusal c ≡ TORN
@@ -88,7 +88,7 @@ module _ (o p : ℕ) where
         go false at ok = absurd (true≢false ok)
     sent-effect apart (AtOwner d) fits ok =
         rw (test-passed (λ (a : DirectoryAct). a .refusal) (ltb (d .rc) MOST) _ _ refl ok)
-        (counted (λ e. apart (directory-at p o d fits ∙ sym e))
+        (counted (λ e. apart (home p o d fits .own ∙ sym e))
         (record { counts = omega arith; weights = λ x. refl; returns = sym (+ℤ-idr (d .«msg_ctr» .0)) }))
     sent-effect apart (Elsewhere e) fits ok = holder-effect e (e .presence) (eqb q (owner o)) refl ok
 
@@ -159,14 +159,14 @@ module _ (o p : ℕ) where
       arrives x = omega (arith, away-air o q p away x, under x (firstReceived q))
 
   -- RECEIVE of another from the Parent: it is merged into the weight
-  merged : (q : ℕ) (e : Remote) → RemoteFits p o e → e .parent ≡ q
+  merged : (q : ℕ) (e : Remote) → Away p o e → e .parent ≡ q
       → Effect o p (Elsewhere e) (Reference q p o) (Elsewhere (usedWith e (weight (e .«ref_weight» .0 + 1)))) Empty
   merged q e fits from = record {
     balanced = record {
       here = omega (arith, arrives p);
       there = λ x ne. arrives x;
-      back = rw (away-home o q p (fits .away));
-      placed = inl (λ x some. rw (under x e, eq-eqb (e .parent) x (sym (under-parent x more-weight some))) (fits .weighs));
+      back = rw (away-home o q p (fits .elsewhere));
+      placed = inl (λ x some. rw (under x e, eq-eqb (e .parent) x (sym (under-parent x more-weight some))) (fits .parts .positive));
     };
     counts = omega arith;
     returns = omega arith;
@@ -177,7 +177,7 @@ module _ (o p : ℕ) where
       more-weight = usedWith e (weight (e .«ref_weight» .0 + 1))
 
       arrives : (x : ℕ) → weightUnder x (Elsewhere e) + airUnder x o (Reference q p o) ≡ weightUnder x (Elsewhere more-weight) + 0
-      arrives x = rw (away-air o q p (fits .away) x, under x e, under x more-weight, ← from) (go (eqb (e .parent) x))
+      arrives x = rw (away-air o q p (fits .elsewhere) x, under x e, under x more-weight, ← from) (go (eqb (e .parent) x))
         where
           go : (b : Bool) → (if b then e .«ref_weight» .0 else 0) + one b ≡ (if b then e .«ref_weight» .0 + 1 else 0) + 0
           go true = omega arith
@@ -242,15 +242,15 @@ module _ (o p : ℕ) where
           → Effect o p Absent (Reference q p o) ((if b then torn Absent else done (Elsewhere (firstReceived q))) .entry) Empty
       go true at ok = absurd (true≢false ok)
       go false at ok = made q (eqb-false p (owner o) at) apart
-  received-effect q apart (AtOwner d) fits ok = came-home q d (directory-at p o d fits) ok
+  received-effect q apart (AtOwner d) fits ok = came-home q d (home p o d fits .own) ok
   received-effect q apart (Elsewhere e) fits ok = go (eqb (e .parent) q) refl ok
     where
       go : (b : Bool) → eqb (e .parent) q ≡ b → refuses (ofRemote (again e b)) ≡ false
           → Effect o p (Elsewhere e) (Reference q p o) (Elsewhere (again e b .entry)) (if b then Empty else Decrement p q o none (weight 1))
       go true from ok =
           rw (test-passed (λ (a : RemoteAct). a .refusal) (ltb (e .«ref_weight» .0) MOST) _ _ refl ok)
-          (merged q e (remote-fits p o e fits) (eqb-true (e .parent) q from))
-      go false from ok = answered q e (remote-fits p o e fits .away)
+          (merged q e (away p o e fits) (eqb-true (e .parent) q from))
+      go false from ok = answered q e (away p o e fits .elsewhere)
 
   -- ---- every act
 

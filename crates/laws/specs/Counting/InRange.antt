@@ -20,10 +20,12 @@ use Rattle.entry.specs.Acts.{directorySent, directoryCameHome, directorySettled
 use Rattle.entry.specs.AtNode.{refuses, holderSent, sent, received, settled}
 use Rattle.entry.specs.Entry.{isClear, isPresent, msgCtrOf, rcOf, weightUnder}
 use Rattle.entry.specs.Fits.{fitsReturns, fitsEntry, withinMost, naturalMost}
+use Rattle.entry.specs.FitsLaws.{away, natural-returns}
 use Rattle.counting.specs.Under.{weight-counted, air-counted}
 use Rattle.table.specs.declared.Message.the-variants.{Reference, Decrement}
 use Rattle.table.specs.declared.Table.{Table}
 use Rattle.table.specs.Shape.{fitsTable}
+use Rattle.table.specs.ShapeLaws.{decrement-fits, reference-fits, shaped}
 use Rattle.table.specs.Table.{entryAt, messageAt}
 use Rattle.laws.specs.Counting.Change.{isOf}
 use Rattle.laws.specs.Counting.ClearLaws.{clear-means-nobody}
@@ -34,8 +36,6 @@ use Rattle.laws.specs.Counting.Within.{Within}
 use Rattle.laws.specs.LawA.{airUnder}
 use Rattle.laws.specs.LawB.{returnsIn}
 use Rattle.laws.specs.Sound.{above, below}
-use Rattle.laws.specs.Tables.ShapeLaws.{decrement-fits, reference-fits, shaped}
-use Rattle.laws.specs.Tables.Spot.{natural-returns, remote-fits}
 
 -- ---- ranges
 
@@ -67,7 +67,7 @@ module _ (p o : ℕ) (n : ℕ) (few : n ≤ MOST) where
       let after = directory-range (d .«msg_ctr» .0 +ℤ m .0) (omega arith) (omega (arith, not-below m natural)) in
       rw (le-leb (w .0) (d .rc) enough, natural, before, after)
   settled-in-range m w (Elsewhere e) fits natural weighs enough up down =
-      let f = remote-fits p o e fits in
+      let f = away p o e fits .parts in
       let parts = sum-parts (e .«msg_ctr» .0) (m .0) in
       let after = remote-range (e .«msg_ctr» .0 +ℤ m .0) (omega (arith, not-below m natural, not-below (e .«msg_ctr») (f .returns))) (omega arith) in
       rw (le-leb (w .0) (e .rc) enough, natural, f .returns, after)
@@ -96,10 +96,10 @@ module _ (p o : ℕ) (n : ℕ) (low : n < MOST) where
   sent-in-range q Absent fits (inl owner) count up = rw (eq-eqb p _ owner)
   sent-in-range q Absent fits (inr present) count up = absurd (false≢true present)
   sent-in-range q (AtOwner d) fits holder count up = rw (lt-ltb (d .rc) MOST (omega arith))
-  sent-in-range q (Elsewhere e) fits (inl owner) count up = absurd (remote-fits p o e fits .away owner)
+  sent-in-range q (Elsewhere e) fits (inl owner) count up = absurd (away p o e fits .elsewhere owner)
   sent-in-range q (Elsewhere e) fits (inr present) count up = elim (ℕ-discrete q (owner o)) [
     | yes home ↦
-        let natural = remote-fits p o e fits .returns in
+        let natural = away p o e fits .parts .returns in
         let parts = sum-parts (e .«msg_ctr» .0) (pos 1) in
         let after = remote-range (e .«msg_ctr» .0 +ℤ pos 1) (omega (arith, not-below (e .«msg_ctr») natural)) (omega arith) in
         rw (present, eq-eqb q (owner o) home, natural, after)
@@ -128,7 +128,7 @@ module _ (t : Table) (o : ℕ) (shape : fitsTable t ≡ true) (lo : o < OBJECTS)
       let lp = f .path .receiver in
       let air : airUnder p o (messageAt t s) ≡ w .0 = rw (here, decrement-air o q p m w p, eq-eqb p p refl) in
       let carried : returnsIn o (messageAt t s) ≡ m .0 = ap (returnsIn o) here ∙ decrement-carried o q p m w in
-      settled-in-range p o n few m w (entryAt t p o) (shaped t shape .entries p o lp lo) (f .returns) (f .weighs)
+      settled-in-range p o n few m w (entryAt t p o) (shaped t shape .entries p o lp lo) (f .returns) (f .positive)
       (omega (arith, air-counted (rules o) (share t o) lawful s p ls lp))
       (rw carried at (returns-part within p s lp ls))
       (within .owed p lp)
@@ -148,7 +148,7 @@ module _ (t : Table) (o : ℕ) (shape : fitsTable t ≡ true) (lo : o < OBJECTS)
   -- a RefWeight is part of the Parent's count
   weight-within : (p : ℕ) → p < NODES → (r : Remote) → entryAt t p o ≡ Elsewhere r → r .«ref_weight» .0 ≤ n
   weight-within p lp r here =
-      let parent = remote-fits p o r (rw here at (shaped t shape .entries p o lp lo)) .parent in
+      let parent = away p o r (rw here at (shaped t shape .entries p o lp lo)) .parts .parent in
       let weighs : weightUnder (r .parent) (entryAt t p o) ≡ r .«ref_weight» .0 = rw (here, under-own r) in
       omega (arith, weight-counted (rules o) (share t o) lawful p (r .parent) lp parent, within .counts (r .parent) parent)
 

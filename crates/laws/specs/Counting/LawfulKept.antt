@@ -14,16 +14,16 @@ use Rattle.counting.specs.Adding.{whole, total-nothing}
 use Rattle.counting.specs.Rules.{Patch}
 use Rattle.counting.specs.Kept.{kept}
 use Rattle.table.specs.declared.Table.{Table}
+use Rattle.table.specs.Fresh.{fresh-entry, fresh-message}
 use Rattle.table.specs.Shape.{fitsTable}
+use Rattle.table.specs.ShapeLaws.{shaped}
 use Rattle.table.specs.Table.{freshTable, entryAt, messageAt}
 use Rattle.laws.specs.Counting.Change.{Change}
 use Rattle.laws.specs.Counting.Effect.{Effect}
 use Rattle.laws.specs.Counting.Effects.{act-effect}
 use Rattle.laws.specs.Counting.Lawful.{rules, share, Lawful}
-use Rattle.laws.specs.Events.Kept.{fresh-entry, fresh-message}
 use Rattle.laws.specs.LawA.{LawA, airUnder}
 use Rattle.laws.specs.LawB.{LawB, isHomeward, returnsIn, totalFrom}
-use Rattle.laws.specs.Tables.ShapeLaws.{shaped}
 
 -- ---- a change
 

@@ -22,7 +22,9 @@ use Rattle.heap.specs.Heap.{rootAt}
 use Rattle.table.specs.declared.Message.{Message}
 use Rattle.table.specs.declared.Table.{Table}
 use Rattle.table.specs.Formed.{Formed}
+use Rattle.table.specs.ShapeLaws.{Shaped}
 use Rattle.table.specs.Table.{emptyPlace, entryAt, isDecrementOf, messageAt, withEntry, withHeap, withMessage}
+use Rattle.table.specs.TableLaws.{entry-other, entry-there, message-elsewhere, message-there}
 use Rattle.step.specs.declared.Event.{Event}
 use Rattle.step.specs.Drop.{lastWords}
 use Rattle.step.specs.Event.{SEND, RECEIVE, SETTLE, DROP}
@@ -35,8 +37,6 @@ use Rattle.laws.specs.Events.Answered.{counting}
 use Rattle.laws.specs.Events.Did.{DropFree, ReceiveFree, SendFree, SettleFree}
 use Rattle.laws.specs.Events.Writes.{Writes, empty-there, reply-either, writes-clear, writes-drop, writes-receive, writes-send, writes-settle}
 use Rattle.laws.specs.LawE.{isSendOf, isSettleOf}
-use Rattle.laws.specs.Tables.ShapeLaws.{Shaped}
-use Rattle.laws.specs.Tables.TableLaws.{entry-elsewhere, entry-of-another, entry-there, message-elsewhere, message-there}
 
 -- ---- an act with its two tests
 
@@ -82,15 +82,15 @@ module _ {t u : Table} {x p s : ℕ} {f : Entry} {y : Message} (formed : Formed 
       → ((o : ℕ) → o ≢ x → Acts o p (entryAt t p o) (messageAt t s) (entryAt t p o) y (isSendOf o t e) (isSettleOf o t e))
       → (o : ℕ) → o < OBJECTS → Linked t e u o
   linked-by e own others o object = elim (ℕ-discrete o x) [
-    | yes q ↦ rw q (linked x (writes .object) (λ a ne. entry-at a x ∙ entry-elsewhere t p x f formed (writes .object) a ne)
+    | yes q ↦ rw q (linked x (writes .object) (λ a ne. entry-at a x ∙ entry-other t p x f a x (λ _ same. ne same))
         (rw (entry-at p x ∙ entry-there t p x f formed (writes .object) (writes .node)) own))
     | no ne ↦
-        let stays : (a : ℕ) → entryAt u a o ≡ entryAt t a o = λ a. entry-at a o ∙ entry-of-another t p x f a o ne in
+        let stays : (a : ℕ) → entryAt u a o ≡ entryAt t a o = λ a. entry-at a o ∙ entry-other t p x f a o (λ same _. ne same) in
         linked o object (λ a _. stays a) (rw (stays p) (others o ne))
   ]
     where
       here : messageAt u s ≡ y
-      here = message-at s ∙ message-there t s y formed (writes .place)
+      here = message-at s ∙ message-there t s y (formed .places) (writes .place)
 
       linked : (a : ℕ) → a < OBJECTS → ((q : ℕ) → q ≢ p → entryAt u q a ≡ entryAt t q a)
           → Acts a p (entryAt t p a) (messageAt t s) (entryAt u p a) y (isSendOf a t e) (isSettleOf a t e) → Linked t e u a

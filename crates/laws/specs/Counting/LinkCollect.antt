@@ -16,7 +16,9 @@ use Rattle.table.specs.declared.Cell.{Cell}
 use Rattle.table.specs.declared.Message.{Message}
 use Rattle.table.specs.declared.Table.{Table}
 use Rattle.table.specs.Formed.{Formed}
+use Rattle.table.specs.ShapeLaws.{Shaped, shaped}
 use Rattle.table.specs.Table.{cellAt, entryAt, entryIn, messageAt}
+use Rattle.table.specs.TableLaws.{cell-kept, cell-set}
 use Rattle.step.specs.declared.Event.{Event}
 use Rattle.step.specs.Event.{COLLECT}
 use Rattle.step.specs.Step.{step}
@@ -29,8 +31,6 @@ use Rattle.laws.specs.Events.DidLaws.{did}
 use Rattle.laws.specs.Heap.Collected.{Changed, changed, collected}
 use Rattle.laws.specs.Heap.Starts.{reclaimed-clear}
 use Rattle.laws.specs.LawE.{isSendOf, isSettleOf}
-use Rattle.laws.specs.Tables.ShapeLaws.{Shaped, shaped}
-use Rattle.laws.specs.Tables.TableLaws.{cell-kept, cell-set}
 
 -- a clear directory goes by an act, and where none stands there is none to go
 cleared : {o p : ℕ} {t : Table} {ev : Event} (e : Entry) (x : Message) → Neither o t ev → isClear e ≡ true

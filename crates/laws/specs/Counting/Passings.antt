@@ -13,6 +13,7 @@ use Rattle.entry.specs.declared.ReturnCount.{ReturnCount}
 use Rattle.entry.specs.declared.Weight.{Weight}
 use Rattle.entry.specs.Entry.{none, weight}
 use Rattle.entry.specs.Fits.{fitsReturns}
+use Rattle.entry.specs.FitsLaws.{natural-returns}
 use Rattle.table.specs.declared.Message.{Message}
 use Rattle.table.specs.declared.Message.the-variants.{Empty, Reference, Decrement}
 use Rattle.laws.specs.Counting.Change.{isOf}
@@ -20,7 +21,6 @@ use Rattle.laws.specs.Counting.Counts.{away-air, away-home, home-air, ho
 use Rattle.laws.specs.Counting.Effect.{Passes}
 use Rattle.laws.specs.LawA.{airUnder}
 use Rattle.laws.specs.LawB.{returnsIn, isHomeward}
-use Rattle.laws.specs.Tables.Spot.{natural-returns}
 
 module _ (o p : ℕ) where
   -- neither is of this object

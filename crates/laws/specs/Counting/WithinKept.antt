@@ -11,13 +11,13 @@ use Rattle.entry.specs.declared.Entry.{Entry}
 use Rattle.entry.specs.Entry.{msgCtrOf, rcOf}
 use Rattle.counting.specs.Kept.{measured}
 use Rattle.table.specs.declared.Table.{Table}
+use Rattle.table.specs.Fresh.{fresh-entry, fresh-message}
 use Rattle.table.specs.Shape.{fitsTable}
 use Rattle.table.specs.Table.{freshTable, entryAt, messageAt}
 use Rattle.laws.specs.Counting.Change.{Change}
 use Rattle.laws.specs.Counting.Lawful.{rules, share}
 use Rattle.laws.specs.Counting.LawfulKept.{patch, effect}
 use Rattle.laws.specs.Counting.Within.{Within}
-use Rattle.laws.specs.Events.Kept.{fresh-entry, fresh-message}
 use Rattle.laws.specs.LawB.{returnsIn}
 use Rattle.laws.specs.Sound.{above, below}
 

@@ -18,6 +18,7 @@ use Rattle.entry.specs.declared.Entry.the-variants.{Absent, AtOwner, Elsewhere}
 use Rattle.entry.specs.AtNode.{mayGo, settled, setUnused}
 use Rattle.entry.specs.Entry.{isAbsent, isPresent, isRemote, rcOf, weightUnder}
 use Rattle.entry.specs.Fits.{fitsEntry}
+use Rattle.entry.specs.FitsLaws.{away}
 use Rattle.counting.specs.Adding.{sum-some}
 use Rattle.counting.specs.Kept.{measured}
 use Rattle.counting.specs.Leaf.{leaf}
@@ -25,6 +26,7 @@ use Rattle.table.specs.declared.Message.{Message}
 use Rattle.table.specs.declared.Message.the-variants.{Empty, Reference, Decrement}
 use Rattle.table.specs.declared.Table.{Table}
 use Rattle.table.specs.Shape.{fitsTable}
+use Rattle.table.specs.ShapeLaws.{shaped}
 use Rattle.table.specs.Table.{entryAt, messageAt, isDecrementOf, isReferenceOf}
 use Rattle.laws.specs.Counting.Change.{isOf, Act, other, same, sends, receives, settles, unused, drops, clears, Change}
 use Rattle.laws.specs.Counting.ClearLaws.{hangs, clear-means-nobody, nobody-means-clear}
@@ -35,8 +37,6 @@ use Rattle.laws.specs.Counting.Linked.{isSent, isSettled}
 use Rattle.laws.specs.Events.Presence.{settled-presence}
 use Rattle.laws.specs.LawA.{airUnder}
 use Rattle.laws.specs.LawE.{Unused, due, Clear, InAir}
-use Rattle.laws.specs.Tables.ShapeLaws.{shaped}
-use Rattle.laws.specs.Tables.Spot.{remote-fits}
 
 -- ---- single entries and messages
 
@@ -162,7 +162,7 @@ module _ (t : Table) (o : ℕ) (shape : fitsTable t ≡ true) (lo : o < OBJECTS)
           go : (e : Entry) → fitsEntry p o e ≡ true → (p ≢ owner o → isAbsent e ≡ true) → isRemote e ≡ false
           go Absent fits absent = refl
           go (AtOwner d) fits absent = refl
-          go (Elsewhere e) fits absent = absurd (false≢true (absent (remote-fits p o e fits .away)))
+          go (Elsewhere e) fits absent = absurd (false≢true (absent (away p o e fits .elsewhere)))
 
   -- while something is due, a decrement is in the air or a remote entry may go
   pub due-onward : 0 < due t o → InAir t o ⊎ Some NODES (λ p. (isRemote (entryAt t p o) ≡ true) × (mayGo (entryAt t p o) ≡ true))

@@ -21,6 +21,7 @@ use Rattle.table.specs.declared.Message.{Message}
 use Rattle.table.specs.declared.Message.the-variants.{Empty, Reference, Decrement}
 use Rattle.table.specs.declared.Table.{Table}
 use Rattle.table.specs.Shape.{fitsTable}
+use Rattle.table.specs.ShapeLaws.{shaped}
 use Rattle.table.specs.Table.{entryAt, messageAt, isDecrementOf}
 use Rattle.step.specs.declared.Event.{Event}
 use Rattle.step.specs.Drop.{dropOf}
@@ -32,7 +33,6 @@ use Rattle.laws.specs.Counting.CountsKept.{Counted, counted-lawful, coun
 use Rattle.laws.specs.Counting.InRange.{settles-at-most}
 use Rattle.laws.specs.Draining.Drained.{due-onward}
 use Rattle.laws.specs.LawE.{Droppable, Onward, RefusedOnlyBy, Unused, due, onlyThese}
-use Rattle.laws.specs.Tables.ShapeLaws.{shaped}
 
 -- ---- lists of refusals
 

@@ -1,12 +1,12 @@
 -- The acts on an entry keep its shape: each tests the ranges before it changes a count, and hands back the entry as it was where one would
 -- be left (document 01, "Any event: a count would leave its shape range"). Assumes nothing.
-use mathlib.Core.Path.{_≡_, refl, ap, _∙_}
+use mathlib.Core.Path.{_≡_, refl, sym, _∙_}
 use mathlib.Core.Bool.{Bool, true, false, not}
 use mathlib.Core.Logic.{_≢_}
 use Prim.Native.Nat.{ℕ, _+_, _-_, _<_, _≤_}
 use native.Mathlib.Omega.{arith}
 use lib.Dec.{leb, ltb, eqb}
-use borrow.Author.Tests.{leb-true, le-leb, lt-ltb, ltb-true, ne-eqb, not-true}
+use borrow.Author.Tests.{eqb-false, ltb-true}
 use Rattle.terms.specs.Choose.{if_then_else_, _and_}
 use Rattle.terms.specs.ChooseLaws.{and-passes, either-way}
 use Rattle.terms.specs.Limits.{MOST, NODES, owner}
@@ -23,61 +23,8 @@ use Rattle.entry.specs.Acts.{directoryCameHome, directorySent, directorySettled
 use Rattle.entry.specs.Acts.{remoteReceivedAgain, remoteSent, remoteSentHome, remoteSettled, remoteSetUnused}
 use Rattle.entry.specs.AtNode.{done, holderSent, received, sent, setUnused, settled, torn}
 use Rattle.entry.specs.Entry.{both, fewer, more, weight}
-use Rattle.entry.specs.Fits.{fitsDirectory, fitsDirectoryReturns, fitsEntry, fitsRemote, fitsReturns}
-
--- ---- the parts of the shape
-
--- a directory's numbers
-pub record DirectoryParts (d : Directory) : Type 0 where
-  pub count : d .rc ≤ MOST
-  pub returns : fitsDirectoryReturns (d .«msg_ctr») ≡ true
-
--- taken apart
-pub directory-parts : (d : Directory) → fitsDirectory d ≡ true → DirectoryParts d
-unfolding fitsDirectory
-directory-parts d fits =
-    let p = and-passes (leb (d .rc) MOST) (fitsDirectoryReturns (d .«msg_ctr»)) .0 fits in
-    record { count = leb-true (d .rc) MOST (p .0); returns = p .1 }
-
--- put together
-pub directory-fits : (d : Directory) → DirectoryParts d → fitsDirectory d ≡ true
-unfolding fitsDirectory
-directory-fits d parts = rw (le-leb (d .rc) MOST (parts .count), parts .returns)
-
--- a remote entry's numbers
-pub record RemoteParts (e : Remote) : Type 0 where
-  pub count : e .rc ≤ MOST
-  pub parent : e .parent < NODES
-  pub returns : fitsReturns (e .«msg_ctr») ≡ true
-  pub positive : 0 < e .«ref_weight» .0
-  pub weight : e .«ref_weight» .0 ≤ MOST
-
--- taken apart
-pub remote-parts : (e : Remote) → fitsRemote e ≡ true → RemoteParts e
-unfolding fitsRemote
-remote-parts e fits =
-    let one = and-passes (leb (e .rc) MOST) _ .0 fits in
-    let two = and-passes (ltb (e .parent) NODES) _ .0 (one .1) in
-    let three = and-passes (fitsReturns (e .«msg_ctr»)) _ .0 (two .1) in
-    let four = and-passes (ltb 0 (e .«ref_weight» .0)) _ .0 (three .1) in
-    record {
-      count = leb-true (e .rc) MOST (one .0);
-      parent = ltb-true (e .parent) NODES (two .0);
-      returns = three .0;
-      positive = ltb-true 0 (e .«ref_weight» .0) (four .0);
-      weight = leb-true (e .«ref_weight» .0) MOST (four .1);
-    }
-
--- put together
-pub remote-fits : (e : Remote) → RemoteParts e → fitsRemote e ≡ true
-unfolding fitsRemote
-remote-fits e parts = rw (
-  le-leb (e .rc) MOST (parts .count),
-  lt-ltb (e .parent) NODES (parts .parent),
-  parts .returns,
-  lt-ltb 0 (e .«ref_weight» .0) (parts .positive),
-  le-leb (e .«ref_weight» .0) MOST (parts .weight),
-)
+use Rattle.entry.specs.Fits.{fitsDirectory, fitsDirectoryReturns, fitsEntry, fitsReturns}
+use Rattle.entry.specs.FitsLaws.{DirectoryParts, RemoteParts, away, away-fits, home, home-fits}
 
 -- ---- the acts on a directory
 
@@ -184,42 +131,17 @@ module _ (e : Remote) (parts : RemoteParts e) where
 -- ---- the entry at a node
 
 module _ (node o : ℕ) where
-  -- a directory stands at the owner
-  at-owner : (d : Directory) → fitsEntry node o (AtOwner d) ≡ true → (eqb node (owner o) ≡ true) × DirectoryParts d
-  unfolding fitsEntry
-  at-owner d fits = let p = and-passes (eqb node (owner o)) (fitsDirectory d) .0 fits in (p .0, directory-parts d (p .1))
-
-  -- so does one that its act changed
+  -- a directory that its act changed stands where it stood
   directory-kept : (d f : Directory) → fitsEntry node o (AtOwner d) ≡ true → (DirectoryParts d → DirectoryParts f)
       → fitsEntry node o (AtOwner f) ≡ true
-  unfolding fitsEntry
-  directory-kept d f fits keeps = let p = at-owner d fits in rw (p .0, directory-fits f (keeps (p .1)))
+  directory-kept d f fits keeps = let h = home node o d fits in home-fits node o f (record { own = h .own; parts = keeps (h .parts) })
 
-  -- a remote entry stands elsewhere, and not under itself
-  pub record Away (e : Remote) : Type 0 where
-    pub elsewhere : eqb node (owner o) ≡ false
-    pub under : eqb (e .parent) node ≡ false
-    pub parts : RemoteParts e
-
-  -- taken apart
-  pub away : (e : Remote) → fitsEntry node o (Elsewhere e) ≡ true → Away e
-  unfolding fitsEntry
-  away e fits =
-      let one = and-passes (not (eqb node (owner o))) _ .0 fits in
-      let two = and-passes (not (eqb (e .parent) node)) (fitsRemote e) .0 (one .1) in
-      record { elsewhere = not-true (eqb node (owner o)) (one .0); under = not-true (eqb (e .parent) node) (two .0); parts = remote-parts e (two .1) }
-
-  -- put together
-  pub away-fits : (e : Remote) → Away e → fitsEntry node o (Elsewhere e) ≡ true
-  unfolding fitsEntry
-  away-fits e a = rw (a .elsewhere, a .under, remote-fits e (a .parts))
-
-  -- so does one that its act changed
+  -- and so does a remote entry
   remote-kept : (e f : Remote) → fitsEntry node o (Elsewhere e) ≡ true → (RemoteParts e → Stays e f) → fitsEntry node o (Elsewhere f) ≡ true
   remote-kept e f fits keeps =
-      let a = away e fits in
+      let a = away node o e fits in
       let s = keeps (a .parts) in
-      away-fits f (record { elsewhere = a .elsewhere; under = ap (λ (k : ℕ). eqb k node) (s .parent) ∙ a .under; parts = s .parts })
+      away-fits node o f (record { elsewhere = a .elsewhere; under = λ own. a .under (sym (s .parent) ∙ own); parts = s .parts })
 
   -- SEND
   pub sent-fits : (to : ℕ) (e : Entry) → fitsEntry node o e ≡ true → fitsEntry node o (sent node to o e .entry) ≡ true
@@ -239,9 +161,9 @@ module _ (node o : ℕ) where
     where
       go : (b : Bool) → eqb node (owner o) ≡ b → fitsEntry node o ((if b then torn Absent else done (Elsewhere (firstReceived from))) .entry) ≡ true
       go true own = fits
-      go false own = away-fits (firstReceived from) (record {
-        elsewhere = own;
-        under = ne-eqb from node apart;
+      go false own = away-fits node o (firstReceived from) (record {
+        elsewhere = eqb-false node (owner o) own;
+        under = apart;
         parts = record { count = omega arith; parent = sender; returns = refl; positive = omega arith; weight = omega arith };
       })
   received-fits from (AtOwner d) sender apart fits = directory-kept d (directoryCameHome d .entry) fits (directory-came-home d)

@@ -2,15 +2,11 @@
 -- makes it true: EVENT for operands, TORN for a count that would leave its range. Assumes nothing.
 use mathlib.Core.Path.{_≡_, refl, sym, ap, _∙_}
 use mathlib.Core.Bool.{Bool, true, false}
-use mathlib.Core.List.{List}
 use Prim.Native.Nat.{ℕ, _+_, _<_}
 use native.Mathlib.Omega.{arith}
-use lib.ListN.{set, length-set}
-use borrow.Author.Tests.{eqb-false, le-leb, lt-ltb}
+use borrow.Author.Tests.{le-leb, lt-ltb}
 use Rattle.terms.specs.Choose.{if_then_else_}
-use Rattle.terms.specs.Counted.{everyFrom}
-use Rattle.terms.specs.CountedLaws.{every-at}
-use Rattle.terms.specs.Limits.{EVENTS, MOST, NODES, OBJECTS, FIELDS, NONE}
+use Rattle.terms.specs.Limits.{EVENTS, MOST, NODES, OBJECTS, NONE}
 use Rattle.terms.specs.ListLaws.{length-list}
 use Rattle.terms.specs.Numbers.{ACCEPTED}
 use Rattle.entry.specs.declared.Remote.{Remote}
@@ -18,15 +14,18 @@ use Rattle.entry.specs.declared.Entry.{Entry}
 use Rattle.entry.specs.declared.Entry.the-variants.{Absent, Elsewhere}
 use Rattle.entry.specs.AtNode.{setUnused}
 use Rattle.entry.specs.Fits.{fitsEntry}
+use Rattle.entry.specs.FitsLaws.{away}
 use Rattle.heap.specs.declared.Heap.{Heap}
-use Rattle.heap.specs.declared.Object.{Object}
-use Rattle.heap.specs.Heap.{born, fieldAt, fitsField, fitsName, fitsObject, idle, isLive, objectAt, rootAt, withField, withRoot}
+use Rattle.heap.specs.Heap.{born, fieldAt, fitsName, idle, objectAt, rootAt, withRoot}
 use Rattle.table.specs.declared.Cell.{Cell}
 use Rattle.table.specs.declared.Message.{Message}
 use Rattle.table.specs.declared.Table.{Table}
 use Rattle.table.specs.Formed.{Formed}
+use Rattle.table.specs.Good.{Good, GoodCell, GoodHeap, GoodObject}
+use Rattle.table.specs.Good.{air-set, born-good, cell-good, entry-set, field-set, good-formed, good-shape, idle-good, is-good, object-set, root-set}
 use Rattle.table.specs.Shape.{fitsCount, fitsMessage, fitsTable}
-use Rattle.table.specs.Table.{cellAt, cellWith, entryAt, withHeap}
+use Rattle.table.specs.ShapeLaws.{Shaped, Way, field-name, fits-way, object-name, reference-way, root-name, root-object, shaped}
+use Rattle.table.specs.Table.{cellAt, entryAt, withHeap}
 use Rattle.step.specs.declared.Event.{Event}
 use Rattle.step.specs.Collect.{heapCollected}
 use Rattle.step.specs.Drop.{lastWords}
@@ -36,13 +35,9 @@ use Rattle.step.specs.Step.{step}
 use Rattle.laws.specs.Events.Answered.{counting, met}
 use Rattle.laws.specs.Events.Did.{Did}
 use Rattle.laws.specs.Events.DidLaws.{did}
-use Rattle.laws.specs.Events.EntryFits.{away, received-fits, sent-fits, settled-fits, unused-fits}
+use Rattle.laws.specs.Events.EntryFits.{received-fits, sent-fits, settled-fits, unused-fits}
 use Rattle.laws.specs.Events.Writes.{Writes, reply-either, writes-clear, writes-drop, writes-receive, writes-send, writes-settle}
 use Rattle.laws.specs.Heap.Collected.{Changed, changed, collected, isGone, object-after}
-use Rattle.laws.specs.Tables.Good.{Good, GoodCell, GoodHeap, GoodObject}
-use Rattle.laws.specs.Tables.Good.{air-set, cell-good, cells-set, good-formed, good-shape, is-good, object-set, root-set}
-use Rattle.laws.specs.Tables.ShapeLaws.{Shaped, Way, fits-way, reference-way, root-name, root-object, shaped}
-use Rattle.laws.specs.Tables.TableLaws.{every-set}
 
 -- ---- messages
 
@@ -59,41 +54,8 @@ unfolding fitsMessage
 last-words-fit p o e node object fits =
     let a = away p o e fits in
     let w : Way p (e .parent) o =
-    record { sender = node; receiver = a .parts .parent; away = λ q. eqb-false (e .parent) p (a .under) (sym q); object = object } in
+    record { sender = node; receiver = a .parts .parent; away = λ q. a .under (sym q); object = object } in
     rw (fits-way w, a .parts .returns, lt-ltb 0 (e .«ref_weight» .0) (a .parts .positive), le-leb (e .«ref_weight» .0) MOST (a .parts .weight))
-
--- ---- objects
-
--- an object just made
-born-good : GoodObject born
-unfolding fitsObject everyFrom
-born-good = record { size = refl; fits = refl }
-
--- and one just reclaimed
-pub idle-good : GoodObject idle
-unfolding fitsObject everyFrom
-idle-good = record { size = refl; fits = refl }
-
--- a field of a live object
-field-set : {h : Heap} (o f x : ℕ) → GoodHeap h → o < OBJECTS → isLive h o ≡ true → fitsName x ≡ true → GoodHeap (withField h o f x)
-unfolding fitsObject
-field-set {h} o f x g object live fits = object-set o new g changed
-  where
-    old : List ℕ
-    old = objectAt h o .fields
-
-    new : Object
-    new = record { live = isLive h o; fields = set old f x }
-
-    changed : GoodObject new
-    changed = record {
-      size = length-set old f x ∙ g .object o object .size;
-      fits = every-set FIELDS (fitsField (isLive h o)) old f x (rw live fits) (g .object o object .fits);
-    }
-
--- an object's number is a name
-object-name : (o : ℕ) → o < OBJECTS → fitsName o ≡ true
-object-name o low = rw (lt-ltb o OBJECTS low)
 
 -- ---- COLLECT
 
@@ -137,11 +99,10 @@ module _ {t : Table} (g : Good t) (shape : Shaped t) (before-end : t .count < EV
   written : {u : Table} {x p s : ℕ} {f : Entry} {y : Message} → u .count ≡ t .count + 1 → GoodHeap (u .heap) → Writes t u x p s f y
       → fitsEntry p x f ≡ true → fitsMessage y ≡ true → Good u
   written {u} {x} {p} {s} {f} {y} count heap writes entry message =
-      let cell = cell-good p f (g .cells .cell x (writes .object)) entry in
       record {
         count = rw count counted;
         heap = heap;
-        cells = rw (writes .cells) (cells-set x (cellWith (cellAt t x) p f) (g .cells) cell);
+        cells = rw (writes .cells) (entry-set p x f (g .cells) (writes .object) entry);
         air = rw (writes .air) (air-set s y (g .air) message);
       }
 
@@ -152,13 +113,6 @@ module _ {t : Table} (g : Good t) (shape : Shaped t) (before-end : t .count < EV
   -- where the new root is a name
   rooted : (p r x : ℕ) → p < NODES → fitsName x ≡ true → Good (counting t (withHeap t (withRoot (t .heap) p r x)))
   rooted p r x node fits = arranged (root-set p r x (g .heap) node fits)
-
-  -- what a field of a live object holds is a name
-  field-name : (o f : ℕ) → o < OBJECTS → f < FIELDS → isLive (t .heap) o ≡ true → fitsName (fieldAt (t .heap) o f) ≡ true
-  unfolding fitsObject
-  field-name o f object field live =
-      sym (ap (λ (b : Bool). fitsField b (fieldAt (t .heap) o f)) live)
-      ∙ every-at FIELDS (λ k. fitsField (isLive (t .heap) o) (fieldAt (t .heap) o k)) (shape .objects o object) f field
 
   -- by cases of what the event did
   keeps : {e : Event} {u : Table} → Did t e u → Good u
@@ -172,7 +126,7 @@ module _ {t : Table} (g : Good t) (shape : Shaped t) (before-end : t .count < EV
   keeps {e} (Did.load kind a b c d reach) =
       let o = rootAt (t .heap) (e .a) (e .c) in
       let object = root-object t shape (e .a) (e .c) a c (reach .named) in
-      rooted (e .a) (e .b) (fieldAt (t .heap) o (e .d)) a (field-name o (e .d) object d (reach .live))
+      rooted (e .a) (e .b) (fieldAt (t .heap) o (e .d)) a (field-name t shape o (e .d) object d (reach .live))
   keeps {e} (Did.store kind a b c d reach) =
       let o = rootAt (t .heap) (e .a) (e .b) in
       let object = root-object t shape (e .a) (e .b) a b (reach .named) in

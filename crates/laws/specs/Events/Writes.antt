@@ -20,6 +20,7 @@ use Rattle.heap.specs.Heap.{rootAt}
 use Rattle.table.specs.declared.Message.{Message}
 use Rattle.table.specs.declared.Message.the-variants.{Empty, Reference, Decrement}
 use Rattle.table.specs.declared.Table.{Table}
+use Rattle.table.specs.ShapeLaws.{Shaped, decrement-way, reference-way, root-object}
 use Rattle.table.specs.Table.{emptyPlace, entryAt, isEmpty, messageAt, withEntry, withMessage}
 use Rattle.step.specs.Drop.{lastWords}
 use Rattle.step.specs.Receive.{reply, withReceived}
@@ -27,7 +28,6 @@ use Rattle.step.specs.Send.{withSent}
 use Rattle.step.specs.Settle.{withSettled}
 use Rattle.laws.specs.Events.Answered.{counting}
 use Rattle.laws.specs.Events.Did.{DropFree, ReceiveFree, SendFree, SettleFree}
-use Rattle.laws.specs.Tables.ShapeLaws.{Shaped, decrement-way, reference-way, root-object}
 
 -- ---- what an event writes
 

@@ -18,6 +18,7 @@ use Rattle.heap.specs.Heap.{isLive}
 use Rattle.table.specs.declared.Message.{Message}
 use Rattle.table.specs.declared.Message.the-variants.{Empty, Reference}
 use Rattle.table.specs.declared.Table.{Table}
+use Rattle.table.specs.NewOrSame.{entry-either, message-either, root-either}
 use Rattle.table.specs.Table.{emptyPlace, entryAt, isReferenceOf, messageAt, withEntry, withMessage}
 use Rattle.step.specs.Drop.{lastWords}
 use Rattle.step.specs.Receive.{reply, withReceived}
@@ -28,7 +29,6 @@ use Rattle.laws.specs.Events.Writes.{reply-either}
 use Rattle.laws.specs.Heap.Growing.{grows-held}
 use Rattle.laws.specs.Heap.Holding.{WellHeld, well-is}
 use Rattle.laws.specs.Sound.{holdsWell}
-use Rattle.laws.specs.Tables.NewOrSame.{entry-either, message-either, root-either}
 
 -- ---- what one entry and one message more have to meet
 

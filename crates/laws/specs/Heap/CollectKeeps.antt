@@ -17,6 +17,7 @@ use Rattle.heap.specs.Reached.{heldBy-is}
 use Rattle.heap.specs.Walk.{started, through, Within, ownedBy, heldBy}
 use Rattle.table.specs.declared.Table.{Table}
 use Rattle.table.specs.Formed.{Formed}
+use Rattle.table.specs.ShapeLaws.{owner-number}
 use Rattle.table.specs.Table.{entryAt}
 use Rattle.step.specs.Collect.{kept}
 use Rattle.laws.specs.Heap.Alive.{inUse-is}
@@ -28,7 +29,6 @@ use Rattle.laws.specs.Heap.Starts.{Kept, Reclaimed, kept-is, reclaimed-i
 use Rattle.laws.specs.Heap.UsedKept.{held-counted, reclaimed-unused}
 use Rattle.laws.specs.LawD.{Used}
 use Rattle.laws.specs.Sound.{holdsWell}
-use Rattle.laws.specs.Tables.ShapeLaws.{owner-number}
 
 -- what cannot be reclaimed is not
 not-gone : (t : Table) (p o : ℕ) → (Reclaimed t p o → ⊥) → isGone t p o ≡ false

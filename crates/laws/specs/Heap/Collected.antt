@@ -22,9 +22,9 @@ use Rattle.table.specs.declared.Cell.{Cell}
 use Rattle.table.specs.declared.Table.{Table}
 use Rattle.table.specs.Formed.{Formed}
 use Rattle.table.specs.Table.{cellAt, cellWith, entryAt, entryIn}
+use Rattle.table.specs.TableLaws.{cell-kept, cell-set}
 use Rattle.step.specs.Collect.{cellCollected, heapCollected, heldAt, isReclaimed, kept, withCollected}
 use Rattle.laws.specs.Heap.Holding.{live-number}
-use Rattle.laws.specs.Tables.TableLaws.{cell-kept, cell-set}
 
 -- the table that COLLECT at p makes of t
 abbrev pub collected : Table → ℕ → Table

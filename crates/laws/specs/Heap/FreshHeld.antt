@@ -6,18 +6,18 @@ use lib.ListN.{getD, getD-replicate}
 use Rattle.terms.specs.Limits.{NODES, OBJECTS, ROOTS, NONE}
 use Rattle.heap.specs.declared.Object.{Object}
 use Rattle.heap.specs.declared.Roots.{Roots}
-use Rattle.heap.specs.Heap.{freshHeap, idle, isLive, rootAt}
+use Rattle.heap.specs.Heap.{freshHeap, isLive, rootAt}
+use Rattle.table.specs.Fresh.{fresh-entry, fresh-message, fresh-object, fresh-roots}
 use Rattle.table.specs.Table.{freshTable}
-use Rattle.laws.specs.Events.Kept.{fresh-entry, fresh-message}
 use Rattle.laws.specs.Heap.Holding.{WellHeld}
 
 -- every root is empty
 fresh-root : (p r : ℕ) → p < NODES → r < ROOTS → rootAt freshHeap p r ≡ NONE
-fresh-root p r node root = ap (λ (x : Roots). getD (x .at) r 0) (getD-replicate NODES p _ _ node) ∙ getD-replicate ROOTS r NONE 0 root
+fresh-root p r node root = ap (λ (x : Roots). getD (x .at) r 0) (fresh-roots p node) ∙ getD-replicate ROOTS r NONE 0 root
 
 -- no object is live
 fresh-dead : (o : ℕ) → o < OBJECTS → isLive freshHeap o ≡ false
-fresh-dead o lt = ap (λ (x : Object). x .live) (getD-replicate OBJECTS o idle _ lt)
+fresh-dead o lt = ap (λ (x : Object). x .live) (fresh-object o lt)
 
 -- so all is held well
 pub fresh-held : WellHeld freshTable

@@ -18,6 +18,7 @@ use Rattle.entry.specs.Entry.{isClear, isDirectory}
 use Rattle.entry.specs.Fits.{fitsEntry, fitsRemote}
 use Rattle.heap.specs.Heap.{fieldAt, freeOwn, isLive, rootAt}
 use Rattle.table.specs.declared.Table.{Table}
+use Rattle.table.specs.ShapeLaws.{Shaped, owner-number, shaped}
 use Rattle.table.specs.Table.{entryAt, messageAt}
 use Rattle.step.specs.declared.Outcome.{Outcome}
 use Rattle.step.specs.Event.{NEW, event, fitsEvent, kindOf}
@@ -31,7 +32,6 @@ use Rattle.laws.specs.Heap.HeapKeeps.{chosen-number}
 use Rattle.laws.specs.Heap.Holding.{WellHeld, sound-held, well-named}
 use Rattle.laws.specs.Heap.Nobody.{Bridge, Nobody}
 use Rattle.laws.specs.Sound.{Sound}
-use Rattle.laws.specs.Tables.ShapeLaws.{Shaped, owner-number, shaped}
 
 -- nothing in the field names object o
 pub record Unnamed (t : Table) (o : ℕ) : Type 0 where

@@ -11,12 +11,12 @@ use Rattle.terms.specs.Limits.{NODES, OBJECTS, OWNED, FIELDS, NONE, owner}
 use Rattle.heap.specs.declared.Object.{Object}
 use Rattle.heap.specs.Heap.{born, fieldAt, freeOwn, isLive, objectAt, withField, withObject, withRoot}
 use Rattle.table.specs.declared.Table.{Table}
+use Rattle.table.specs.NewOrSame.{object-either, root-either, set-either}
 use Rattle.table.specs.Table.{withCount, withHeap}
 use Rattle.step.specs.New.{chosen, withNew}
 use Rattle.laws.specs.Heap.Growing.{Keeps, grows-held, keeps-well}
 use Rattle.laws.specs.Heap.Holding.{WellHeld, well-is}
 use Rattle.laws.specs.Sound.{holdsWell}
-use Rattle.laws.specs.Tables.NewOrSame.{object-either, root-either, set-either}
 
 -- the event count has no part in it
 pub count-held : {u : Table} (n : ℕ) → WellHeld u → WellHeld (withCount u n)

@@ -13,11 +13,14 @@ use Rattle.entry.specs.declared.Entry.the-variants.{Absent, AtOwner, Elsewhere}
 use Rattle.entry.specs.Entry.{isDirectory}
 use Rattle.entry.specs.AtNode.{received}
 use Rattle.entry.specs.Fits.{fitsEntry}
+use Rattle.entry.specs.FitsLaws.{home}
 use Rattle.heap.specs.Heap.{fieldAt, isLive, isNone, rootAt}
 use Rattle.table.specs.declared.Message.the-variants.{Reference}
 use Rattle.table.specs.declared.Table.{Table}
 use Rattle.table.specs.Formed.{Formed}
+use Rattle.table.specs.ShapeLaws.{Shaped, reference-way, root-object, shaped}
 use Rattle.table.specs.Table.{entryAt, messageAt}
+use Rattle.table.specs.TableLaws.{entry-there}
 use Rattle.step.specs.declared.Event.{Event}
 use Rattle.step.specs.New.{chosen}
 use Rattle.step.specs.Step.{step}
@@ -29,9 +32,6 @@ use Rattle.laws.specs.Heap.CollectKeeps.{collect-held}
 use Rattle.laws.specs.Heap.HeapKeeps.{chosen-number, chosen-own, count-held, field-held, new-held, root-held}
 use Rattle.laws.specs.Heap.Holding.{WellHeld, live-number, well-named}
 use Rattle.laws.specs.Heap.Nobody.{Bridge}
-use Rattle.laws.specs.Tables.ShapeLaws.{Shaped, reference-way, root-object, shaped}
-use Rattle.laws.specs.Tables.Spot.{directory-at}
-use Rattle.laws.specs.Tables.TableLaws.{entry-there}
 
 -- in shape, a directory stands at the owner only
 pub directory-at-owner : {t : Table} → Shaped t → (q o : ℕ) → q < NODES → o < OBJECTS → isDirectory (entryAt t q o) ≡ true → q ≡ owner o
@@ -40,7 +40,7 @@ directory-at-owner {t} shape q o node number d = go (entryAt t q o) (shape .entr
   where
     go : (e : Entry) → fitsEntry q o e ≡ true → isDirectory e ≡ true → q ≡ owner o
     go Absent fits d = absurd (true≢false (sym d))
-    go (AtOwner x) fits d = directory-at q o x fits
+    go (AtOwner x) fits d = home q o x fits .own
     go (Elsewhere x) fits d = absurd (true≢false (sym d))
 
 -- so at another node there is none

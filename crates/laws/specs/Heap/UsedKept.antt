@@ -13,13 +13,13 @@ use Rattle.heap.specs.Heap.{isLive, rootAt}
 use Rattle.heap.specs.Reached.{reached-within}
 use Rattle.heap.specs.Walk.{started, through, Within, ownedBy}
 use Rattle.table.specs.declared.Table.{Table}
+use Rattle.table.specs.ShapeLaws.{owner-number}
 use Rattle.table.specs.Table.{entryAt}
 use Rattle.laws.specs.Heap.Alive.{InRoot, InAir, inUse-is, law-d}
 use Rattle.laws.specs.Heap.Holding.{Named, WellHeld, well-named}
 use Rattle.laws.specs.Heap.Nobody.{Bridge, present-counted, air-counted}
 use Rattle.laws.specs.Heap.Starts.{Counted, Kept, Reclaimed, starts-is}
 use Rattle.laws.specs.LawD.{Used}
-use Rattle.laws.specs.Tables.ShapeLaws.{owner-number}
 
 module _ {t : Table} (held : WellHeld t) (bridge : Bridge t) where
   -- what is used is live

@@ -15,11 +15,13 @@ use Rattle.entry.specs.declared.Entry.{Entry}
 use Rattle.entry.specs.declared.Entry.the-variants.{Absent, AtOwner, Elsewhere}
 use Rattle.entry.specs.Entry.{isAbsent, isClear, isDirectory, isPresent}
 use Rattle.entry.specs.Fits.{fitsEntry}
+use Rattle.entry.specs.FitsLaws.{away}
 use Rattle.heap.specs.Heap.{freeOwn, isLive, isNone, rootAt, rootsOf}
 use Rattle.heap.specs.Reached.{heldBy-is, reached-within}
 use Rattle.heap.specs.Walk.{started, through, heldBy, isMarked, ownedBy}
 use Rattle.table.specs.declared.Message.the-variants.{Reference}
 use Rattle.table.specs.declared.Table.{Table}
+use Rattle.table.specs.ShapeLaws.{Shaped, root-object}
 use Rattle.table.specs.Table.{entryAt, messageAt}
 use Rattle.step.specs.Collect.{collectTorn, heldAt, kept, mayHold}
 use Rattle.step.specs.New.{chosen}
@@ -30,8 +32,6 @@ use Rattle.laws.specs.Heap.HeldAfter.{reference-live, root-live}
 use Rattle.laws.specs.Heap.Holding.{WellHeld, roots-hold, well-named}
 use Rattle.laws.specs.Heap.Starts.{Counted, Kept, kept-is, starts-is}
 use Rattle.laws.specs.Sound.{holdsWell}
-use Rattle.laws.specs.Tables.ShapeLaws.{Shaped, root-object}
-use Rattle.laws.specs.Tables.Spot.{remote-fits}
 
 -- a live object is no dead one of the node's own
 live-not-dead : (t : Table) (p o : ℕ) → isLive (t .heap) o ≡ true → isDeadOwn t p o ≡ false
@@ -91,7 +91,7 @@ module _ {t : Table} (shape : Shaped t) (held : WellHeld t) where
         go : (e : Entry) → fitsEntry p o e ≡ true → (isDirectory e ≡ true → isLive (t .heap) o ≡ true) → isClear e ≡ false → isLive (t .heap) o ≡ true
         go Absent fits live clear = absurd (true≢false clear)
         go (AtOwner d) fits live clear = live refl
-        go (Elsewhere e) fits live clear = absurd (remote-fits p o e fits .away (sym (c .own)))
+        go (Elsewhere e) fits live clear = absurd (away p o e fits .elsewhere (sym (c .own)))
 
     -- what is kept is live
     pub kept-live : {o : ℕ} → Kept t p o → isLive (t .heap) o ≡ true

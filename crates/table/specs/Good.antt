@@ -1,10 +1,11 @@
 -- Tables that are formed and in shape, part by part: heap, cells, air and count; and that to write a thing that fits into a good part leaves it
 -- good. Assumes nothing.
-use mathlib.Core.Path.{_≡_, _∙_}
+use mathlib.Core.Path.{_≡_, refl, _∙_}
 use mathlib.Core.Bool.{true, false}
 use mathlib.Core.List.{List, []}
 use Prim.Native.Nat.{ℕ, _<_}
 use lib.ListN.{length, getD, set, length-set}
+use Rattle.terms.specs.Counted.{everyFrom}
 use Rattle.terms.specs.Limits.{NODES, OBJECTS, PLACES, FIELDS, ROOTS}
 use Rattle.entry.specs.declared.Entry.{Entry}
 use Rattle.entry.specs.declared.Entry.the-variants.{Absent}
@@ -12,17 +13,17 @@ use Rattle.entry.specs.Fits.{fitsEntry}
 use Rattle.heap.specs.declared.Heap.{Heap}
 use Rattle.heap.specs.declared.Object.{Object}
 use Rattle.heap.specs.declared.Roots.{Roots}
-use Rattle.heap.specs.Heap.{fitsName, fitsObject, fitsRoots, objectAt, rootsAt, withObject, withRoot}
+use Rattle.heap.specs.Heap.{born, fitsField, fitsName, fitsObject, fitsRoots, idle, isLive, objectAt, rootsAt, withField, withObject, withRoot}
 use Rattle.table.specs.declared.Cell.{Cell}
 use Rattle.table.specs.declared.Message.{Message}
 use Rattle.table.specs.declared.Message.the-variants.{Empty}
 use Rattle.table.specs.declared.Place.{Place}
 use Rattle.table.specs.declared.Table.{Table}
 use Rattle.table.specs.Formed.{Formed}
 use Rattle.table.specs.Shape.{fitsCount, fitsMessage, fitsTable}
 use Rattle.table.specs.Table.{cellWith, entryIn}
-use Rattle.laws.specs.Tables.ShapeLaws.{Shaped, in-shape}
-use Rattle.laws.specs.Tables.TableLaws.{every-set, set-all}
+use Rattle.table.specs.ShapeLaws.{Shaped, in-shape}
+use Rattle.table.specs.TableLaws.{every-set, set-all}
 
 -- ---- the parts
 
@@ -98,14 +99,30 @@ module _ {t : Table} (g : Good t) where
   }
 
   -- and every number is in its range
-  pub good-shape : fitsTable t ≡ true
-  good-shape = in-shape t (record {
+  pub good-shaped : Shaped t
+  good-shaped = record {
     count = g .count;
     objects = λ o number. g .heap .object o number .fits;
     roots = λ p number. g .heap .roots p number .fits;
     entries = λ p o node number. g .cells .cell o number .fits p node;
     messages = g .air .fits;
-  })
+  }
+
+  -- so the table is in shape
+  pub good-shape : fitsTable t ≡ true
+  good-shape = in-shape t good-shaped
+
+-- ---- objects without names
+
+-- an object just made
+pub born-good : GoodObject born
+unfolding fitsObject everyFrom
+born-good = record { size = refl; fits = refl }
+
+-- and one that isn't live
+pub idle-good : GoodObject idle
+unfolding fitsObject everyFrom
+idle-good = record { size = refl; fits = refl }
 
 -- ---- one thing written
 
@@ -118,27 +135,36 @@ object-set {h} o x g fits = record {
   roots = g .roots;
 }
 
--- a root
-pub root-set : {h : Heap} (p r x : ℕ) → GoodHeap h → p < NODES → fitsName x ≡ true → GoodHeap (withRoot h p r x)
-unfolding fitsRoots
-root-set {h} p r x g node fits = record {
+-- a field of a live object
+pub field-set : {h : Heap} (o f x : ℕ) → GoodHeap h → o < OBJECTS → isLive h o ≡ true → fitsName x ≡ true → GoodHeap (withField h o f x)
+unfolding fitsObject
+field-set {h} o f x g object live fits = object-set o (record { live = isLive h o; fields = set old f x }) g (record {
+  size = length-set old f x ∙ g .object o object .size;
+  fits = every-set FIELDS (fitsField (isLive h o)) old f x (rw live fits) (g .object o object .fits);
+})
+  where
+    old : List ℕ
+    old = objectAt h o .fields
+
+-- the roots of a node
+pub roots-set : {h : Heap} (p : ℕ) (x : Roots) → GoodHeap h → GoodRoots x → GoodHeap (record { objects = h .objects; roots = set (h .roots) p x })
+roots-set {h} p x g fits = record {
   objects = g .objects;
   object = g .object;
-  nodes = length-set (h .roots) p new ∙ g .nodes;
-  roots = λ a low. set-all (λ j y. GoodRoots y) (h .roots) p new (record { at = [] }) changed a (g .roots a low);
+  nodes = length-set (h .roots) p x ∙ g .nodes;
+  roots = λ a low. set-all (λ j y. GoodRoots y) (h .roots) p x (record { at = [] }) fits a (g .roots a low);
 }
+
+-- one of them
+pub root-set : {h : Heap} (p r x : ℕ) → GoodHeap h → p < NODES → fitsName x ≡ true → GoodHeap (withRoot h p r x)
+unfolding fitsRoots
+root-set {h} p r x g node fits = roots-set p (record { at = set old r x }) g (record {
+  size = length-set old r x ∙ g .roots p node .size;
+  fits = every-set ROOTS fitsName old r x fits (g .roots p node .fits);
+})
   where
     old : List ℕ
     old = rootsAt h p .at
-
-    new : Roots
-    new = record { at = set old r x }
-
-    changed : GoodRoots new
-    changed = record {
-      size = length-set old r x ∙ g .roots p node .size;
-      fits = every-set ROOTS fitsName old r x fits (g .roots p node .fits);
-    }
 
 -- an entry in its cell
 pub cell-good : {o : ℕ} {c : Cell} (p : ℕ) (e : Entry) → GoodCell o c → fitsEntry p o e ≡ true → GoodCell o (cellWith c p e)
@@ -147,12 +173,16 @@ cell-good {o} {c} p e g fits = record {
   fits = λ q low. set-all (λ j y. fitsEntry j o (y .held) ≡ true) (c .at) p (record { held = e }) (record { held = Absent }) fits q (g .fits q low);
 }
 
--- a cell
-pub cells-set : {cs : List Cell} (o : ℕ) (c : Cell) → GoodCells cs → GoodCell o c → GoodCells (set cs o c)
-cells-set {cs} o c g fits = record {
-  size = length-set cs o c ∙ g .size;
-  cell = λ a low. set-all (λ j y. GoodCell j y) cs o c (record { at = [] }) fits a (g .cell a low);
+-- an entry
+pub entry-set : {cs : List Cell} (p o : ℕ) (e : Entry) → GoodCells cs → o < OBJECTS → fitsEntry p o e ≡ true
+    → GoodCells (set cs o (cellWith (getD cs o (record { at = [] })) p e))
+entry-set {cs} p o e g object fits = record {
+  size = length-set cs o new ∙ g .size;
+  cell = λ a low. set-all (λ j y. GoodCell j y) cs o new (record { at = [] }) (cell-good p e (g .cell o object) fits) a (g .cell a low);
 }
+  where
+    new : Cell
+    new = cellWith (getD cs o (record { at = [] })) p e
 
 -- a message
 pub air-set : {ps : List Place} (s : ℕ) (m : Message) → GoodAir ps → fitsMessage m ≡ true → GoodAir (set ps s (record { held = m }))

@@ -1,5 +1,5 @@
 -- What stands where in a table of which one thing was changed: the new thing in its spot, the old ones in all others. Assumes nothing.
-use mathlib.Core.Path.{_≡_, ap}
+use mathlib.Core.Path.{_≡_, ap, _∙_}
 use mathlib.Core.Logic.{_≢_, ⊎-elim}
 use mathlib.Core.Bool.{Bool, true}
 use mathlib.Core.List.{List, []}
@@ -12,15 +12,15 @@ use Rattle.terms.specs.CountedLaws.{every-all, every-at}
 use Rattle.terms.specs.Limits.{NODES, OBJECTS, PLACES}
 use Rattle.entry.specs.declared.Entry.{Entry}
 use Rattle.entry.specs.declared.Entry.the-variants.{Absent}
 use Rattle.table.specs.declared.Cell.{Cell}
 use Rattle.table.specs.declared.Message.{Message}
 use Rattle.table.specs.declared.Message.the-variants.{Empty}
 use Rattle.table.specs.declared.Place.{Place}
 use Rattle.table.specs.declared.Slot.{Slot}
 use Rattle.table.specs.declared.Table.{Table}
 use Rattle.table.specs.Formed.{Formed}
 use Rattle.table.specs.Table.{cellAt, cellWith, entryAt, entryIn, messageAt, withEntry, withMessage}
-use Rattle.laws.specs.Tables.NewOrSame.{entry-either, message-either, set-either}
+use Rattle.table.specs.NewOrSame.{entry-either, message-either, set-either}
 
 -- what holds of the new element, and of an element that stands at j, holds at j after the new one is set
 pub set-all : {A : Type 0} (P : ℕ → A → Type 0) (l : List A) (i : ℕ) (x d : A) → P i x → (j : ℕ) → P j (getD l j d) → P j (getD (set l i x) j d)
@@ -43,22 +43,15 @@ pub cell-set : (c : Cell) (p : ℕ) (e : Entry) → p < length (c .at) → entry
 cell-set c p e lt = ap (λ (s : Slot). s .held) (getD-set-same (c .at) p (record { held = e }) (record { held = Absent }) lt)
 
 module _ (t : Table) (p o : ℕ) (e : Entry) where
-  -- entries of another object stay
-  pub entry-of-another : (q a : ℕ) → a ≢ o → entryAt (withEntry t p o e) q a ≡ entryAt t q a
-  entry-of-another q a ne = ⊎-elim (λ new. absurd (ne (new .1))) (λ same. same) (entry-either t p o e q a)
+  -- every other entry stays
+  pub entry-other : (q a : ℕ) → (a ≡ o → q ≡ p → ⊥) → entryAt (withEntry t p o e) q a ≡ entryAt t q a
+  entry-other q a ne = ⊎-elim (λ new. absurd (ne (new .1) (new .0))) (λ same. same) (entry-either t p o e q a)
 
-  module _ (formed : Formed t) (object : o < OBJECTS) where
-    -- the object's cell is the changed one
-    cell-there : cellAt (withEntry t p o e) o ≡ cellWith (cellAt t o) p e
-    cell-there = getD-set-same (t .cells) o (cellWith (cellAt t o) p e) (record { at = [] }) (omega (arith, formed .cells))
-
-    -- entries at another node stay
-    pub entry-elsewhere : (q : ℕ) → q ≢ p → entryAt (withEntry t p o e) q o ≡ entryAt t q o
-    entry-elsewhere q ne = ⊎-elim (λ new. absurd (ne (new .0))) (λ same. same) (entry-either t p o e q o)
-
-    -- the new entry is there
-    pub entry-there : p < NODES → entryAt (withEntry t p o e) p o ≡ e
-    entry-there node = rw cell-there (cell-set (cellAt t o) p e (omega (arith, formed .entries o object)))
+  -- the new entry is there
+  pub entry-there : Formed t → o < OBJECTS → p < NODES → entryAt (withEntry t p o e) p o ≡ e
+  entry-there formed object node =
+      ap (λ (c : Cell). entryIn c p) (getD-set-same (t .cells) o (cellWith (cellAt t o) p e) (record { at = [] }) (omega (arith, formed .cells)))
+      ∙ cell-set (cellAt t o) p e (omega (arith, formed .entries o object))
 
 -- ---- messages
 
@@ -68,6 +61,6 @@ module _ (t : Table) (s : ℕ) (m : Message) where
   message-elsewhere a ne = ⊎-elim (λ new. absurd (ne (new .0))) (λ same. same) (message-either t s m a)
 
   -- the new message is there
-  pub message-there : Formed t → s < PLACES → messageAt (withMessage t s m) s ≡ m
-  message-there formed place =
-      ap (λ (x : Place). x .held) (getD-set-same (t .air) s (record { held = m }) (record { held = Empty }) (omega (arith, formed .places)))
+  pub message-there : length (t .air) ≡ PLACES → s < PLACES → messageAt (withMessage t s m) s ≡ m
+  message-there size place =
+      ap (λ (x : Place). x .held) (getD-set-same (t .air) s (record { held = m }) (record { held = Empty }) (omega arith))

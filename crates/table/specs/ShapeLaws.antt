@@ -1,24 +1,24 @@
 -- The shape of a table taken apart, spot by spot, and put together again. Assumes nothing.
 use mathlib.Core.Path.{_≡_, sym, ap, _∙_}
-use mathlib.Core.Bool.{true, false, not, true≢false}
+use mathlib.Core.Bool.{Bool, true, false, not, true≢false}
 use mathlib.Core.Logic.{_≢_, ⊎-elim}
-use Prim.Native.Nat.{ℕ, _<_}
+use Prim.Native.Nat.{ℕ, _<_, _≤_}
 use native.Mathlib.Omega.{arith}
-use lib.Dec.{ltb, eqb}
+use lib.Dec.{leb, ltb, eqb}
 use lib.ListN.{getD}
-use borrow.Author.Tests.{ltb-true, lt-ltb, eqb-false, ne-eqb, not-true}
+use borrow.Author.Tests.{leb-true, ltb-true, lt-ltb, eqb-false, ne-eqb, not-true}
 use Rattle.terms.specs.ChooseLaws.{and-passes, or-passes}
 use Rattle.terms.specs.Counted.{every}
 use Rattle.terms.specs.CountedLaws.{every-all, every-at}
-use Rattle.terms.specs.Limits.{NODES, OBJECTS, PLACES, ROOTS, owner}
+use Rattle.terms.specs.Limits.{NODES, OBJECTS, PLACES, FIELDS, ROOTS, MOST, owner}
 use Rattle.entry.specs.declared.ReturnCount.{ReturnCount}
 use Rattle.entry.specs.declared.Weight.{Weight}
 use Rattle.entry.specs.Fits.{fitsEntry, fitsReturns}
-use Rattle.heap.specs.Heap.{fitsHeap, fitsName, fitsObject, fitsRoots, isNone, objectAt, rootAt, rootsAt}
+use Rattle.heap.specs.Heap.{fieldAt, fitsField, fitsHeap, fitsName, fitsObject, fitsRoots, isLive, isNone, objectAt, rootAt, rootsAt}
 use Rattle.table.specs.declared.Message.the-variants.{Reference, Decrement}
 use Rattle.table.specs.declared.Table.{Table}
 use Rattle.table.specs.Shape.{fitsCell, fitsCount, fitsMessage, fitsTable, fitsWay}
 use Rattle.table.specs.Table.{cellAt, entryAt, messageAt}
 
 -- each number of the table is in its range
 pub record Shaped (t : Table) : Type 0 where
@@ -62,6 +62,10 @@ in-shape t shape =
 pub owner-number : {o : ℕ} → o < OBJECTS → owner o < NODES
 owner-number lt = omega arith
 
+-- an object's number is a name
+pub object-name : (o : ℕ) → o < OBJECTS → fitsName o ≡ true
+object-name o low = rw (lt-ltb o OBJECTS low)
+
 -- a name that isn't empty is an object's number
 pub named-object : (x : ℕ) → fitsName x ≡ true → isNone x ≡ false → x < OBJECTS
 named-object x fits named =
@@ -76,6 +80,13 @@ module _ (t : Table) (shape : Shaped t) where
   -- so a root that isn't empty holds an object
   pub root-object : (p r : ℕ) → p < NODES → r < ROOTS → isNone (rootAt (t .heap) p r) ≡ false → rootAt (t .heap) p r < OBJECTS
   root-object p r node root named = named-object (rootAt (t .heap) p r) (root-name p r node root) named
+
+  -- what a field of a live object holds is a name
+  pub field-name : (o f : ℕ) → o < OBJECTS → f < FIELDS → isLive (t .heap) o ≡ true → fitsName (fieldAt (t .heap) o f) ≡ true
+  unfolding fitsObject
+  field-name o f object field live =
+      sym (ap (λ (b : Bool). fitsField b (fieldAt (t .heap) o f)) live)
+      ∙ every-at FIELDS (λ k. fitsField (isLive (t .heap) o) (fieldAt (t .heap) o k)) (shape .objects o object) f field
 
 -- ---- ways
 
@@ -115,7 +126,8 @@ reference-fits from to o fits = way from to o fits
 pub record DecrementFits (from to o : ℕ) (m : ReturnCount) (n : Weight) : Type 0 where
   pub path : Way from to o
   pub returns : fitsReturns m ≡ true
-  pub weighs : 0 < n .0
+  pub positive : 0 < n .0
+  pub weight : n .0 ≤ MOST
 
 -- taken from the shape
 pub decrement-fits : (from to o : ℕ) (m : ReturnCount) (n : Weight) → fitsMessage (Decrement from to o m n) ≡ true → DecrementFits from to o m n
@@ -123,10 +135,12 @@ unfolding fitsMessage
 decrement-fits from to o m n fits =
     let a = and-passes (fitsWay from to o) _ .0 fits in
     let b = and-passes (fitsReturns m) _ .0 (a .1) in
+    let c = and-passes (ltb 0 (n .0)) (leb (n .0) MOST) .0 (b .1) in
     record {
       path = way from to o (a .0);
       returns = b .0;
-      weighs = ltb-true 0 (n .0) (and-passes (ltb 0 (n .0)) _ .0 (b .1) .0);
+      positive = ltb-true 0 (n .0) (c .0);
+      weight = leb-true (n .0) MOST (c .1);
     }
 
 module _ (t : Table) (shape : Shaped t) (s : ℕ) (place : s < PLACES) where
