@@ -198,7 +198,7 @@ code-back c = from0
     from0 = step Count 0x0100 refl k1 from1
 
 -- bytes whose frame is in order are a record's, and those behind it
-front-back : (l : List ℕ) (k : RecordKind) → AreBytes l → statedKind l ≡ k → HEAD ≤ length l → isUnknown k ≡ false
+pub front-back : (l : List ℕ) (k : RecordKind) → AreBytes l → statedKind l ≡ k → HEAD ≤ length l → isUnknown k ≡ false
     → statedLength l ≡ lengthOf k → HEAD + lengthOf k ≤ length l → front k (payload k l) (restAfter k l) ≡ l
 front-back [] k are kind head known len le = absurd (omega arith)
 front-back (a ∷ []) k are kind head known len le = absurd (omega arith)

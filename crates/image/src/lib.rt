@@ -23,6 +23,7 @@ use contents::with_directory;
 use contents::with_remote;
 use entry::Entry;
 pub use finds::look_from;
+pub use finds::place_of;
 use frames::HEAD;
 use fronts::front_of;
 use heap::Heap;

@@ -17,13 +17,13 @@ use Rattle.entry.specs.AtNode.{setUnused}
 use Rattle.entry.specs.Entry.{isDirectory}
 use Rattle.heap.specs.declared.Object.{Object}
 use Rattle.heap.specs.Heap.{idle, isLive, objectAt, rootAt}
+use Rattle.heap.specs.HeapLaws.{live-number}
 use Rattle.heap.specs.Walk.{ownedBy}
 use Rattle.table.specs.declared.Cell.{Cell}
 use Rattle.table.specs.declared.Table.{Table}
 use Rattle.table.specs.Formed.{Formed}
 use Rattle.table.specs.Table.{cellAt, cellWith, entryAt, entryIn}
 use Rattle.step.specs.Collect.{cellCollected, heapCollected, heldAt, isReclaimed, kept, withCollected}
-use Rattle.laws.specs.Heap.Holding.{live-number}
 use Rattle.laws.specs.Tables.TableLaws.{cell-kept, cell-set}
 
 -- the table that COLLECT at p makes of t
