@@ -10,12 +10,12 @@ use Rattle.terms.specs.BufferLaws.{stored-more}
 use Rattle.image.specs.declared.Held.the-variants as h
 use Rattle.image.specs.Stored.{Stored}
 use Rattle.image.specs.StoredLaws.{stored-length}
-use Rattle.etzvanul.specs.declared.Change.{Change}
-use Rattle.etzvanul.specs.declared.Change.the-variants.{To}
+use Rattle.plan.specs.declared.Change.{Change}
+use Rattle.plan.specs.declared.Change.the-variants.{To}
 use Rattle.etzvanul.specs.declared.Cursor.{Cursor}
 use Rattle.etzvanul.specs.Orderly.{Orderly, Cuts, Moved, passed, put, putTo, orderly-first, orderly-rest, spliced-next}
 use Rattle.etzvanul.specs.Orderly.{lengthWith, length-most, cuts, enough-left}
-use Rattle.etzvanul.specs.Plan.{spliced}
+use Rattle.etzvanul.specs.Spliced.{spliced}
 
 pub record Going (whole l : List ℕ) (cs : List Change) (from to : ℕ) (out : List ℕ) : Type 0 where
   pub orderly : Orderly from cs (length l)

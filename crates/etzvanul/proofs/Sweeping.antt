@@ -10,13 +10,13 @@ use Rattle.terms.specs.CountedLaws.{listFrom-first, listFrom-none}
 use Rattle.terms.specs.Limits.{OBJECTS, OWNED}
 use Rattle.image.specs.declared.Held.the-variants as h
 use Rattle.image.specs.Stored.{FULL, Stored}
-use Rattle.etzvanul.specs.declared.Change.{Change}
-use Rattle.etzvanul.specs.declared.Change.the-variants.{To}
+use Rattle.plan.specs.declared.Change.{Change}
+use Rattle.plan.specs.declared.Change.the-variants.{To}
 use Rattle.etzvanul.specs.declared.Cursor.{Cursor}
-use Rattle.etzvanul.specs.declared.Sweep.{Sweep}
+use Rattle.plan.specs.declared.Sweep.{Sweep}
 use Rattle.etzvanul.specs.Orderly.{Orderly, Cuts, Moved, passed, put, putTo, lengthWith, lengthAfter, counted-length}
-use Rattle.etzvanul.specs.Plan.{spliced}
-use Rattle.etzvanul.specs.Sweep.{objectGone, directoryGone, entryUnused, sweepChanges, sweptImage}
+use Rattle.plan.specs.Sweep.{objectGone, directoryGone, entryUnused, sweepChanges}
+use Rattle.etzvanul.specs.Spliced.{spliced, sweptImage}
 use Rattle.etzvanul.proofs.Going.{Going, ready, on, start, begun, Lasting, taken, lasting-on}
 
 -- ---- the changes left

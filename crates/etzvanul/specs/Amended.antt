@@ -14,6 +14,7 @@ use Rattle.step.specs.declared.Deed.{Deed}
 use Rattle.step.specs.declared.Deed.the-variants.{Collected}
 use Rattle.step.specs.declared.Event.{Event}
 use Rattle.step.specs.declared.Kind.the-variants.{Collect}
+use Rattle.step.specs.Collect.{collect}
 use Rattle.step.specs.Event.{fitsEvent, kindOf, rangesOf}
 use Rattle.step.specs.EventRecord.{eventIn, isRecord}
 use Rattle.step.specs.Outcome.{by}
@@ -24,14 +25,17 @@ use Rattle.image.specs.Reader.{read}
 use Rattle.etzvanul.specs.CallLaws.{refusal}
 use Rattle.etzvanul.specs.Comes.{Comes, callOf, comes, unfit, ended}
 use Rattle.etzvanul.specs.HostCall.{called, numberIn, bufferIn, hostNumber, hostBytes}
-use Rattle.etzvanul.specs.declared.Plan.{Plan}
-use Rattle.etzvanul.specs.declared.Sweep.{Sweep}
+use Rattle.plan.specs.declared.Plan.{Plan}
+use Rattle.plan.specs.declared.Sweep.{Sweep}
 use Rattle.etzvanul.specs.Orderly.{Orderly}
 use Rattle.etzvanul.specs.OrderlyLaws.{planned-orderly, sweep-orderly}
-use Rattle.etzvanul.specs.Plan.{changesOf, newImage, planOf}
-use Rattle.etzvanul.specs.Plans.{planned, plan-comes, sweep-comes}
-use Rattle.etzvanul.specs.Sweep.{sweepOf, sweepChanges, sweptImage}
-use Rattle.etzvanul.specs.Told.{Told}
+use Rattle.plan.specs.Plan.{changesOf, planOf}
+use Rattle.plan.specs.Plans.{planned}
+use Rattle.plan.specs.Sweep.{sweepOf, sweepChanges}
+use Rattle.plan.specs.SweepLaws.{sweep-answer, sweep-deed}
+use Rattle.plan.specs.Told.{Told}
+use Rattle.etzvanul.specs.Spliced.{newImage, sweptImage}
+use Rattle.etzvanul.specs.SplicedLaws.{planned-image, swept-image}
 
 -- number and buffer are those of the host call for every record of event e
 pub record Back (old : List ℕ) (e : Event) (out : List ℕ) (back : ℕ) (buffer : List ℕ) : Type 0 where
@@ -78,6 +82,22 @@ module _ (old : List ℕ) (e : Event) (out : List ℕ) (accepted : read old .ans
         }
 
 -- ---- of an image that tells of its table
+
+-- answer, deed and new image of a plan, and of COLLECT at node p
+module _ (l : List ℕ) (t : Table) (told : Told l t) where
+  plan-comes : (e : Event) → fitsEvent e ≡ true → kindOf (e .kind) ≢ Collect
+      → Comes t (by t (ruleOf t e)) (planOf l e .answer) (planOf l e .deed) (newImage (t .count + 1) (planOf l e) l)
+  plan-comes e fits other =
+      let right = planned l t told e fits other in
+      record { answered = right .answer; did = λ ok. right .deed; made = λ ok. planned-image told right ok }
+
+  sweep-comes : (p : ℕ) → p < NODES
+      → Comes t (by t (collect t p)) (sweepOf l p .answer) (Collected (sweepOf l p .reclaimed)) (sweptImage (t .count + 1) l p (sweepOf l p))
+  sweep-comes p lp = record {
+    answered = sweep-answer l t told p lp;
+    did = λ ok. sym (sweep-deed l t told p lp ok);
+    made = λ ok. swept-image told p lp ok;
+  }
 
 -- an event that any event's tests have let pass, and the event count of the image
 pub record Asked (l : List ℕ) (e : Event) (count : ℕ) : Type 0 where

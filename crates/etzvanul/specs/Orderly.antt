@@ -19,11 +19,12 @@ use Rattle.image.specs.Find.{heldRecords, entrySize, messageSize, sizeOf}
 use Rattle.image.specs.RecordBytes.{size-records}
 use Rattle.image.specs.Stored.{Stored}
 use Rattle.image.specs.Writer.{bytesOfAll}
-use Rattle.etzvanul.specs.declared.Change.{Change}
-use Rattle.etzvanul.specs.declared.Change.the-variants.{Same, To}
+use Rattle.plan.specs.declared.Change.{Change}
+use Rattle.plan.specs.declared.Change.the-variants.{Same, To}
 use Rattle.etzvanul.specs.declared.Cursor.{Cursor}
-use Rattle.etzvanul.specs.declared.Plan.{Plan}
-use Rattle.etzvanul.specs.Plan.{spliced, changesOf, newImage}
+use Rattle.plan.specs.declared.Plan.{Plan}
+use Rattle.plan.specs.Plan.{changesOf}
+use Rattle.etzvanul.specs.Spliced.{spliced, newImage}
 
 -- ---- in order
 

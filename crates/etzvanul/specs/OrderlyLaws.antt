@@ -17,15 +17,15 @@ use Rattle.splice.specs.Patched.{Ascends}
 use Rattle.splice.specs.Patched as patched
 use Rattle.splice.specs.Scan.{offset-further}
 use Rattle.step.specs.declared.Outcome.{Outcome}
-use Rattle.etzvanul.specs.declared.Change.{Change}
-use Rattle.etzvanul.specs.declared.Plan.{Plan}
+use Rattle.plan.specs.declared.Change.{Change}
+use Rattle.plan.specs.declared.Plan.{Plan}
 use Rattle.etzvanul.specs.Orderly.{Orderly}
-use Rattle.etzvanul.specs.Plan.{changesOf}
-use Rattle.etzvanul.specs.Planned.{Matches, none, same, made, Planned}
-use Rattle.etzvanul.specs.Sweep.{sweepOf, sweepChanges}
-use Rattle.etzvanul.specs.SweepImage.{swept-differs}
-use Rattle.etzvanul.specs.SweepMatches.{sweep-matches}
-use Rattle.etzvanul.specs.Told.{Told}
+use Rattle.plan.specs.Plan.{changesOf}
+use Rattle.plan.specs.Planned.{Matches, none, same, made, Planned}
+use Rattle.plan.specs.Sweep.{sweepOf, sweepChanges}
+use Rattle.plan.specs.SweepLaws.{swept-differs}
+use Rattle.plan.specs.SweepMatches.{sweep-matches}
+use Rattle.plan.specs.Told.{Told}
 
 module _ {l : List ℕ} {t : Table} (told : Told l t) where
   -- every position begins within the bytes
@@ -62,4 +62,4 @@ module _ {l : List ℕ} {t : Table} (told : Told l t) where
 
   -- COLLECT that is accepted
   pub sweep-orderly : (p : ℕ) → p < NODES → sweepOf l p .answer ≡ ACCEPTED → Orderly 0 (sweepChanges (t .count + 1) l p (sweepOf l p)) (length l)
-  sweep-orderly p lp accepted = orderly (sweep-matches told p lp (sweepOf l p) (t .count + 1)) (swept-differs told p lp accepted .ascends)
+  sweep-orderly p lp accepted = orderly (sweep-matches told p lp (sweepOf l p) (t .count + 1)) (swept-differs l t told p lp accepted .ascends)

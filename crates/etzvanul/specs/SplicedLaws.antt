@@ -1,10 +1,11 @@
--- The old image with a plan's changes made on its bytes is the image of the changed table. Assumes nothing.
+-- The old image with a plan's changes, or COLLECT's, made on its bytes is the image of the changed table. Assumes nothing.
 use mathlib.Core.Path.{_≡_, refl, sym, ap, _∙_}
 use mathlib.Core.List.{List}
-use Prim.Native.Nat.{ℕ, suc, _+_, _-_}
+use Prim.Native.Nat.{ℕ, suc, _+_, _-_, _<_}
 use native.Mathlib.Omega.{arith}
 use lib.ListN.{drop}
 use lib.Seq.{drop-drop}
+use Rattle.terms.specs.Limits.{NODES}
 use Rattle.terms.specs.Numbers.{ACCEPTED}
 use Rattle.table.specs.declared.Table.{Table}
 use Rattle.table.specs.Table.{withCount}
@@ -17,11 +18,16 @@ use Rattle.splice.specs.Patched.{Ascends, Differs}
 use Rattle.splice.specs.Patched as patched
 use Rattle.splice.specs.Scan.{offset-further}
 use Rattle.step.specs.declared.Outcome.{Outcome}
-use Rattle.etzvanul.specs.declared.Change.{Change}
-use Rattle.etzvanul.specs.declared.Plan.{Plan}
-use Rattle.etzvanul.specs.Plan.{spliced, newImage}
-use Rattle.etzvanul.specs.Planned.{Matches, none, same, made, Planned}
-use Rattle.etzvanul.specs.Told.{Told}
+use Rattle.step.specs.Collect.{collect}
+use Rattle.step.specs.Outcome.{by}
+use Rattle.plan.specs.declared.Change.{Change}
+use Rattle.plan.specs.declared.Plan.{Plan}
+use Rattle.plan.specs.Planned.{Matches, none, same, made, Planned}
+use Rattle.plan.specs.Sweep.{sweepOf}
+use Rattle.plan.specs.SweepLaws.{swept-differs}
+use Rattle.plan.specs.SweepMatches.{sweep-matches}
+use Rattle.plan.specs.Told.{Told}
+use Rattle.etzvanul.specs.Spliced.{spliced, newImage, sweptImage}
 
 -- from where a position begins on, the changes of bytes are those of records
 spliced-from : (l : List ℕ) (m : ℕ) {cs : List Change} {ps : List patched.Change} → Matches l cs ps → Ascends m ps
@@ -55,3 +61,8 @@ module _ {l : List ℕ} {t : Table} (told : Told l t) where
       → newImage (t .count + 1) plan l ≡ image (withCount (o .table) (t .count + 1))
   planned-image right accepted =
       let changed = right .changed accepted in spliced-image (changed .1 .0) (changed .1 .1)
+
+  -- and so do COLLECT's changes
+  pub swept-image : (p : ℕ) → p < NODES → sweepOf l p .answer ≡ ACCEPTED
+      → sweptImage (t .count + 1) l p (sweepOf l p) ≡ image (withCount (by t (collect t p) .table) (t .count + 1))
+  swept-image p lp accepted = spliced-image (sweep-matches told p lp (sweepOf l p) (t .count + 1)) (swept-differs l t told p lp accepted)

@@ -17,13 +17,14 @@ use Rattle.heap.specs.Walk.{isMarked}
 use Rattle.image.specs.declared.Held.{Held}
 use Rattle.image.specs.declared.Held.the-variants as h
 use Rattle.image.specs.Find.{entryIn, foundFrom, sizeOf}
-use Rattle.etzvanul.specs.declared.Change.{Change}
-use Rattle.etzvanul.specs.declared.Change.the-variants.{Same}
-use Rattle.etzvanul.specs.declared.Sweep.{Sweep}
+use Rattle.plan.specs.declared.Change.{Change}
+use Rattle.plan.specs.declared.Change.the-variants.{Same}
+use Rattle.plan.specs.declared.Sweep.{Sweep}
 use Rattle.etzvanul.specs.Orderly.{Orderly, after-most, lengthAfter, lengthWith, spliced-length}
-use Rattle.etzvanul.specs.Plan.{at, entryOf, entrySpotIn}
-use Rattle.etzvanul.specs.Sweep.{objectGone, directoryGone, entryUnused, sweepChanges, sweptImage}
+use Rattle.plan.specs.Plan.{at, entryOf, entrySpotIn}
+use Rattle.plan.specs.Sweep.{objectGone, directoryGone, entryUnused, sweepChanges}
 use Rattle.etzvanul.specs.SweepOnward.{Resumes}
+use Rattle.etzvanul.specs.Spliced.{sweptImage}
 
 module _ (n : ℕ) (l : List ℕ) (p : ℕ) (s : Sweep) where
   abbrev objects : List Change

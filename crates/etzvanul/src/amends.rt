@@ -1,14 +1,14 @@
 // One event on an accepted image: the tests that any event meets, what it comes to, and the new image.
-use crate::Plan;
-use crate::Sweep;
 use crate::number_of;
-use crate::plans::plan_of;
 use crate::puts::length_after;
 use crate::puts::put_plan;
 use crate::sweep_puts::put_sweep;
 use crate::sweep_puts::swept_length;
-use crate::sweeps::sweep;
 use image::Written;
+use plan::Plan;
+use plan::Sweep;
+use plan::plan_of;
+use plan::sweep_of;
 use reader::look_from;
 use step::Event;
 use step::Outcome;
@@ -28,9 +28,10 @@ ghost use Rattle.etzvanul.specs.Amended.{Back, Asked};
 ghost use Rattle.etzvanul.specs.Comes.{callOf};
 ghost use Rattle.etzvanul.specs.HostCall.{numberIn, bufferIn};
 ghost use Rattle.etzvanul.specs.Orderly.{Orderly};
-ghost use Rattle.etzvanul.specs.Plan.{changesOf, newImage};
-ghost use Rattle.etzvanul.specs.Sweep.{sweepChanges, sweptImage};
+ghost use Rattle.plan.specs.Plan.{changesOf};
+ghost use Rattle.plan.specs.Sweep.{sweepChanges};
 ghost use Rattle.etzvanul.specs.SweepOnward.{Resumes};
+ghost use Rattle.etzvanul.specs.Spliced.{newImage, sweptImage};
 
 // The kind of COLLECT, which has no plan.
 const COLLECT: u16 = 9;
@@ -90,7 +91,7 @@ fn collect(image: &[u8], e: Event, count: u32, out: &mut [u8]) -> u64
     requires { ⌜ kindOf (e .kind) ≡ Collect ⌝ }
     ensures { λ r. ⌜ Back (now (image .entry)) e (now (out .entry)) r (now (out .exit)) ⌝ }
 {
-    let s = sweep(image, e.a);
+    let s = sweep_of(image, e.a);
     swept(image, e.a, s, count + 1, out)
 }
 

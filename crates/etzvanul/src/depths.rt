@@ -1,6 +1,6 @@
 // What stands for an object at every node of an image, and how far its owner is from one of them.
-use crate::lookups::entry_spot;
 use entry::Entry;
+use plan::entry_from;
 use table::Cell;
 use table::Depth;
 use table::Slot;
@@ -10,8 +10,8 @@ ghost use Prim.Native.Nat.{_<_};
 ghost use Rattle.terms.specs.Counted.{list};
 ghost use Rattle.terms.specs.Limits.{NODES, OBJECTS};
 ghost use Rattle.table.specs.Depth.{depthReport};
-ghost use Rattle.etzvanul.specs.Plan.{entryOf};
-ghost use Rattle.etzvanul.specs.Told.{Told};
+ghost use Rattle.plan.specs.Plan.{entryOf};
+ghost use Rattle.plan.specs.Told.{Told};
 ghost use Rattle.table.specs.declared.Table.{Table as FieldTable};
 
 // The entries of the object, node by node.
@@ -23,7 +23,7 @@ fn cell_in(image: &[u8], o: u8) -> Cell
     }; 8];
     let mut p: u8 = 0;
     while p < Table::NODES {
-        let found = entry_spot(image, p, o);
+        let found = entry_from(image, 0, p, o);
         let held = found.held;
         let k = p as usize;
         at[k] = Slot { held: held.entry() };

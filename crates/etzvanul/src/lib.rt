@@ -2,24 +2,15 @@
 // in specs/HostCall.antt; include/etzvanul.h tells a C programmer the same. No call makes a table of the image: it is asked, and changed, where
 // it lies.
 mod amends; // amends.rt: what an event comes to on an accepted image, and the new image
-mod changes; // changes.rt: the parts that a plan is made of
 mod depths; // depths.rt: how far the owner of an object is from a node
-mod heap_plans; // heap_plans.rt: what NEW, MOVE, CLEAR, LOAD and STORE come to
-mod lookups; // lookups.rt: what an accepted image tells, asked where it lies
-mod message_plans; // message_plans.rt: what SEND, RECEIVE, SETTLE and DROP come to
-mod plans; // plans.rt: the plan of an event, kind by kind
 mod puts; // puts.rt: the new image, and how long it is
 mod sweep_puts; // sweep_puts.rt: the new image of a COLLECT, and how long it is
-mod sweeps; // sweeps.rt: what COLLECT comes to
 
 use amends::amend;
 use depths::depth_in;
-use image::Found;
-use image::Held;
 use image::Loaded;
 use image::Written;
 use reader::check;
-use step::Deed;
 use step::Event;
 use step::Outcome;
 use table::Table;
@@ -28,49 +19,10 @@ ghost use mathlib.Core.Path.{_≡_};
 ghost use Prim.Native.Nat.{_+_, _*_, _≤_};
 ghost use Rattle.etzvanul.specs.HostCall.{numberOfCall, hostNumber, hostBytes, startNumber, startBytes, checkNumber, depthCall};
 
-// A part of the image replaced by another record: from where to where in the bytes, and what is to stand there of object, node or place a, or
-// of object b at node a. Or nothing replaced.
-pub enum Change {
-    Same,
-    To {
-        at: usize,
-        after: usize,
-        a: u8,
-        b: u8,
-        held: Held,
-    },
-}
-
-// What an event comes to on an image: the answer and the deed as they are of the table, and the changes besides the event count, in the order
-// of the image. Refused, nothing changes.
-pub struct Plan {
-    pub answer: u8,
-    pub deed: Deed,
-    pub object: Change,
-    pub roots: Change,
-    pub entry: Change,
-    pub message: Change,
-}
-
 // How far the copying of an image is: what is passed of the old one, and what stands of the new one.
 pub struct Cursor {
     pub from: usize,
     pub to: usize,
-}
-
-// The lowest place in the air without a message, or how many places there are, and what stands there in the bytes.
-pub struct EmptyPlace {
-    pub s: u8,
-    pub spot: Found,
-}
-
-// What COLLECT comes to on an image: the answer, how many objects are reclaimed, which they are, and for which objects of other nodes the
-// entry is no longer used. Refused, nothing changes.
-pub struct Sweep {
-    pub answer: u8,
-    pub reclaimed: u32,
-    pub gone: [bool; 64],
-    pub unused: [bool; 64],
 }
 
 // Where the value and the length of the new image begin in the number.

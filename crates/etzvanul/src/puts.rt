@@ -1,8 +1,8 @@
 // The new image of a plan: the old one copied once with the changes made, and how long that becomes.
-use crate::Change;
 use crate::Cursor;
-use crate::Plan;
 use image::Held;
+use plan::Change;
+use plan::Plan;
 use writer::record_of;
 ghost use mathlib.Core.Path.{_≡_};
 ghost use mathlib.Core.List.{[], _∷_};
@@ -12,7 +12,8 @@ ghost use lib.Seq.{sets};
 ghost use Rattle.terms.specs.Bytes.{over};
 ghost use Rattle.image.specs.Stored.{FULL, Stored};
 ghost use Rattle.etzvanul.specs.Orderly.{Orderly, Cuts, Moved, passed, putTo, put, others, lengthWith, lengthAfter};
-ghost use Rattle.etzvanul.specs.Plan.{changesOf, newImage};
+ghost use Rattle.plan.specs.Plan.{changesOf};
+ghost use Rattle.etzvanul.specs.Spliced.{newImage};
 
 // The bytes of the record of the event count, which stands first.
 pub(crate) const COUNTED: usize = 8;

@@ -1,19 +1,19 @@
 // The new image of a COLLECT: the old one copied once without what goes and with the entries that are no longer used, and how long that becomes.
 // Each thing that changes is looked for from where the last change ended.
-use crate::Change;
 use crate::Cursor;
-use crate::Sweep;
-use crate::changes::replaced;
 use crate::puts::COUNTED;
 use crate::puts::copy_part;
 use crate::puts::length_with;
 use crate::puts::place_after;
 use crate::puts::put_change;
 use crate::puts::put_to;
-use crate::sweeps::entry_from;
-use crate::sweeps::object_from;
 use heap::Heap;
 use image::Held;
+use plan::Change;
+use plan::Sweep;
+use plan::entry_from;
+use plan::object_from;
+use plan::replaced;
 ghost use mathlib.Core.Path.{_≡_};
 ghost use Prim.Native.Nat.{ℕ, _+_, _*_, _<_, _≤_};
 ghost use lib.ListN.{length};
@@ -21,10 +21,11 @@ ghost use Rattle.terms.specs.Bytes.{over};
 ghost use Rattle.terms.specs.Limits.{NODES, OWNED, OBJECTS};
 ghost use Rattle.image.specs.Order.{position};
 ghost use Rattle.image.specs.Stored.{FULL};
-ghost use Rattle.etzvanul.specs.Onward.{From};
+ghost use Rattle.splice.specs.Onward.{From};
 ghost use Rattle.etzvanul.specs.Orderly.{Orderly};
-ghost use Rattle.etzvanul.specs.Sweep.{objectGone, directoryGone, entryUnused, sweepChanges, sweptImage};
+ghost use Rattle.plan.specs.Sweep.{objectGone, directoryGone, entryUnused, sweepChanges};
 ghost use Rattle.etzvanul.specs.SweepOnward.{Resumes};
+ghost use Rattle.etzvanul.specs.Spliced.{sweptImage};
 
 // ---- the changes
 

@@ -55,14 +55,21 @@ rootsOf h p = rootAt h p 0 ∷ rootAt h p 1 ∷ rootAt h p 2 ∷ rootAt h p 3 �
 
 -- ---- what is changed
 
+-- an object with another name in a field, roots with another name in one of them
+abbrev pub withFieldIn : Object → ℕ → ℕ → Object
+withFieldIn x f name = record { live = x .live; fields = set (x .fields) f name }
+
+abbrev pub withRootIn : Roots → ℕ → ℕ → Roots
+withRootIn x r name = record { at = set (x .at) r name }
+
 abbrev pub withObject : Heap → ℕ → Object → Heap
 withObject h o x = record { objects = set (h .objects) o x; roots = h .roots }
 
 abbrev pub withField : Heap → ℕ → ℕ → ℕ → Heap
-withField h o f x = withObject h o (record { live = isLive h o; fields = set (objectAt h o .fields) f x })
+withField h o f x = withObject h o (withFieldIn (objectAt h o) f x)
 
 abbrev pub withRoot : Heap → ℕ → ℕ → ℕ → Heap
-withRoot h p r x = record { objects = h .objects; roots = set (h .roots) p (record { at = set (rootsAt h p .at) r x }) }
+withRoot h p r x = record { objects = h .objects; roots = set (h .roots) p (withRootIn (rootsAt h p) r x) }
 
 -- the lowest object of the node that isn't live, counted from 0 among its own; as many as it owns where all are live
 abbrev pub freeOwn : Heap → ℕ → ℕ

@@ -2,10 +2,11 @@
 mod walk; // walk.rt: what is reached, and what is held
 
 ghost use mathlib.Core.Path.{_≡_};
-ghost use lib.ListN.{getD, length, set};
+ghost use lib.ListN.{getD, length};
 ghost use Rattle.terms.specs.Counted.{every};
 ghost use Rattle.terms.specs.Limits.{NODES, OBJECTS};
 ghost use Rattle.heap.specs.Heap.{idle, born, freshHeap, objectAt, isLive, fieldAt, rootsAt, rootAt, withObject, withField, withRoot, freeOwn};
+ghost use Rattle.heap.specs.Heap.{withRootIn, withFieldIn};
 ghost use Rattle.heap.specs.Heap.{fitsName, fitsField, fitsObject, fitsRoots, fitsHeap};
 
 pub struct Object {
@@ -249,7 +250,7 @@ impl Object {
     }
 
     // It has just been made.
-    fn born() -> Object
+    pub fn born() -> Object
         ensures { λ r. ⌜ r ≡ born ⌝ }
     {
         let fields = [Heap::NONE; 4];
@@ -259,7 +260,8 @@ impl Object {
         }
     }
 
-    fn field(self, f: u8) -> u8
+    // 0 where there is no such field.
+    pub fn field(self, f: u8) -> u8
         ensures { λ r. ⌜ r ≡ getD (self .fields) f 0 ⌝ }
     {
         if Heap::FIELDS <= f {
@@ -269,8 +271,9 @@ impl Object {
         self.fields[i]
     }
 
-    fn with_field(mut self, f: u8, x: u8) -> Object
-        ensures { λ r. ⌜ r ≡ record { live = self .live; fields = set (self .fields) f x } ⌝ }
+    // As it was where there is no such field.
+    pub fn with_field(mut self, f: u8, x: u8) -> Object
+        ensures { λ r. ⌜ r ≡ withFieldIn self f x ⌝ }
     {
         if Heap::FIELDS <= f {
             return self;
@@ -289,7 +292,8 @@ impl Object {
 }
 
 impl Roots {
-    fn root(self, r: u8) -> u8
+    // 0 where there is no such root.
+    pub fn root(self, r: u8) -> u8
         ensures { λ x. ⌜ x ≡ getD (self .at) r 0 ⌝ }
     {
         if Heap::ROOTS <= r {
@@ -299,8 +303,9 @@ impl Roots {
         self.at[i]
     }
 
-    fn with_root(mut self, r: u8, x: u8) -> Roots
-        ensures { λ n. ⌜ n ≡ record { at = set (self .at) r x } ⌝ }
+    // As they were where there is no such root.
+    pub fn with_root(mut self, r: u8, x: u8) -> Roots
+        ensures { λ n. ⌜ n ≡ withRootIn self r x ⌝ }
     {
         if Heap::ROOTS <= r {
             return self;

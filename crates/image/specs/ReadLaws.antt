@@ -150,7 +150,7 @@ code-back c =
     tried k rest = either-way (Numbered c) (eqb c (codeOf k)) (λ same. record { back = λ known. sym (eqb-true c (codeOf k) same) }) rest
 
 -- bytes whose frame is in order are a record's, and those behind it
-front-back : (l : List ℕ) (k : RecordKind) → AreBytes l → statedKind l ≡ k → HEAD ≤ length l → isUnknown k ≡ false
+pub front-back : (l : List ℕ) (k : RecordKind) → AreBytes l → statedKind l ≡ k → HEAD ≤ length l → isUnknown k ≡ false
     → statedLength l ≡ lengthOf k → HEAD + lengthOf k ≤ length l → front k (payload k l) (restAfter k l) ≡ l
 front-back [] k are kind head known len le = absurd (omega arith)
 front-back (a ∷ []) k are kind head known len le = absurd (omega arith)

@@ -53,7 +53,7 @@ fn kind_of_low(k: u8) -> RecordKind
 }
 
 // The position of a record by its kind and its first two bytes.
-fn place_of(kind: RecordKind, a: u8, b: u8) -> u32
+pub fn place_of(kind: RecordKind, a: u8, b: u8) -> u32
     ensures { λ r. ⌜ r ≡ positionOf kind (a ∷ b ∷ []) ⌝ }
 {
     match kind {

@@ -10,4 +10,5 @@ mod reads; // reads.rt: an image read into a table
 
 pub use checks::check;
 pub use finds::look_from;
+pub use finds::place_of;
 pub use reads::read;

@@ -3,14 +3,15 @@
 use mathlib.Core.Path.{_≡_, ap, _∙_}
 use mathlib.Core.Bool.{Bool, true, false}
 use mathlib.Core.List.{List, []}
-use Prim.Native.Nat.{ℕ, _≤_, _<_}
+use Prim.Native.Nat.{ℕ, _+_, _*_, _≤_, _<_}
 use native.Mathlib.Decide.{ℕ-discrete}
+use native.Mathlib.Nat.{div-eq-of-lt-le}
 use native.Mathlib.Omega.{arith}
 use lib.Dec.{eqb}
 use lib.ListN.{set}
 use borrow.Author.Tests.{eq-eqb, ne-eqb}
 use Rattle.terms.specs.Choose.{if_then_else_}
-use Rattle.terms.specs.Limits.{NODES, OBJECTS, owner}
+use Rattle.terms.specs.Limits.{NODES, OBJECTS, OWNED, PLACES, owner}
 use Rattle.entry.specs.declared.Entry.{Entry}
 use Rattle.entry.specs.Fits.{fitsEntry}
 use Rattle.heap.specs.declared.Roots.{Roots}
@@ -61,6 +62,16 @@ entry-between p o lp lo = go (eqb p (owner o))
         × (spotPosition (if b then directory o else remote p o) < spotPosition (message 0))
     go true = (omega arith, omega arith)
     go false = (omega arith, omega arith)
+
+-- of an own object among the directories
+pub own-position : (p k : ℕ) → k < OWNED → spotPosition (entrySpot p (OWNED * p + k)) ≡ spotPosition (directory (OWNED * p + k))
+own-position p k lt =
+    let here : p ≡ owner (OWNED * p + k) = sym (div-eq-of-lt-le OWNED (omega arith) (omega arith)) in
+    rw (eq-eqb p (owner (OWNED * p + k)) here)
+
+-- of another's among the remote entries of the node
+pub other-position : (p o : ℕ) → (p ≡ owner o → ⊥) → spotPosition (entrySpot p o) ≡ spotPosition (remote p o)
+other-position p o away = rw (ne-eqb p (owner o) away)
 
 -- an entry's record stands at its spot
 pub entry-record : (t : Table) (p o : ℕ) → recordAt t (entrySpot p o) ≡ entryRecord p o (entryAt t p o)

@@ -6,6 +6,7 @@ pub mod Fronts
 pub mod Image
 pub mod Kinds
 pub mod Lookup
+pub mod Onward
 pub mod Parts
 pub mod Patched
 pub mod Scan

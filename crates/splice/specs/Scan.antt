@@ -1,4 +1,4 @@
--- The scan as a loop makes it, record by record, over any bytes; resumed where one to an earlier position stopped it finds the same.
+-- The scan as a loop makes it, record by record, over any bytes; one to a later position goes on where one to an earlier position stops.
 -- Assumes nothing.
 use mathlib.Core.Path.{_≡_, refl, sym, ap, _∙_}
 use mathlib.Core.Bool.{Bool, true, false}
@@ -10,7 +10,7 @@ use lib.ListN.{length, drop, length-drop}
 use lib.Seq.{drop-drop}
 use borrow.Author.Tests.{ltb-true, lt-ltb}
 use Rattle.terms.specs.Choose.{if_then_else_}
-use Rattle.image.specs.Find.{frontPlace, frontSize, frontAt, KEYED, passedBy, offset, heldOf, place, foundFrom}
+use Rattle.image.specs.Find.{frontPlace, frontSize, KEYED, passedBy, offset}
 
 no-bytes : (l : List ℕ) → length l ≤ 0 → l ≡ []
 no-bytes [] le = refl
@@ -80,12 +80,3 @@ module _ (n m : ℕ) (le : n ≤ m) where
 
   pub offset-further : (l : List ℕ) → offset m l ≡ offset n l + offset m (drop (offset n l) l)
   offset-further l = further (length l) l (omega arith)
-
-  -- and finds there what a scan from the front finds
-  pub onward-told : (l : List ℕ) → foundFrom (offset n l) m l ≡ foundFrom 0 m l
-  unfolding foundFrom
-  onward-told l = finds (offset n l) (sym (offset-further l)) ∙ sym (finds 0 (omega arith))
-    where
-      finds : (from : ℕ) → from + offset m (drop from l) ≡ offset m l
-          → foundFrom from m l ≡ place (offset m l) (heldOf (frontAt m (drop (offset m l) l)))
-      finds from e = rw (drop-drop (offset m (drop from l)) from l, e)

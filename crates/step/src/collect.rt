@@ -186,8 +186,7 @@ pub fn is_whole(h: Heap, p: u8, present: Marks, marks: Marks) -> bool
 }
 
 // A live object of p that was not reached.
-pub(crate) fn is_reclaimed(h: Heap, p: u8, marks: Marks, o: u8) -> bool
-    requires { ⌜ o < OBJECTS ⌝ }
+pub fn is_reclaimed(h: Heap, p: u8, marks: Marks, o: u8) -> bool
     ensures { λ x. ⌜ x ≡ reclaims h p (marks .seen) o ⌝ }
 {
     if o / Heap::OWNED != p {

@@ -15,6 +15,7 @@ mod send;
 mod settle;
 mod steps;
 
+pub use collect::is_reclaimed;
 pub use collect::is_whole;
 pub use collect::reclaimed;
 pub use drop::last_words;

@@ -41,7 +41,7 @@ use Rattle.laws.specs.Events.Did.{Did, DropFree, InReach}
 -- ---- kinds and their numbers
 
 -- n is the number of the kind; of an unknown kind nothing is said
-abbrev Numbers : ℕ → Kind → Type 0
+abbrev pub Numbers : ℕ → Kind → Type 0
 Numbers n New = n ≡ NEW
 Numbers n Move = n ≡ MOVE
 Numbers n Clear = n ≡ CLEAR
@@ -55,7 +55,7 @@ Numbers n Drop = n ≡ DROP
 Numbers n Unknown = Unit {0}
 
 -- `kindOf` goes by these numbers
-kind-numbers : (n : ℕ) → Numbers n (kindOf n)
+pub kind-numbers : (n : ℕ) → Numbers n (kindOf n)
 unfolding kindOf
 kind-numbers n =
     choose New NEW _ (λ e. e) (choose Move MOVE _ (λ e. e) (choose Clear CLEAR _ (λ e. e) (choose Load LOAD _ (λ e. e)

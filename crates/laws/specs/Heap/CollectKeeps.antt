@@ -13,6 +13,7 @@ use Rattle.terms.specs.ListLaws.{holds-either}
 use Rattle.entry.specs.Entry.{isDirectory}
 use Rattle.heap.specs.declared.Object.{Object}
 use Rattle.heap.specs.Heap.{fieldAt, isLive, rootAt, rootsOf}
+use Rattle.heap.specs.HeapLaws.{live-number}
 use Rattle.heap.specs.Reached.{heldBy-is}
 use Rattle.heap.specs.Walk.{started, through, Within, ownedBy, heldBy}
 use Rattle.table.specs.declared.Table.{Table}
@@ -23,7 +24,7 @@ use Rattle.step.specs.Collect.{kept}
 use Rattle.laws.specs.Heap.Alive.{inUse-is}
 use Rattle.laws.specs.Heap.Collected.{collected, collected-directory, collected-elsewhere, collected-kept}
 use Rattle.laws.specs.Heap.Collected.{isGone, isHeldAt, live-after, object-stays, root-stays}
-use Rattle.laws.specs.Heap.Holding.{Named, WellHeld, live-number, roots-hold, well-is}
+use Rattle.laws.specs.Heap.Holding.{Named, WellHeld, roots-hold, well-is}
 use Rattle.laws.specs.Heap.Nobody.{Bridge}
 use Rattle.laws.specs.Heap.Starts.{Kept, Reclaimed, kept-is, reclaimed-is, starts-is, stays-kept}
 use Rattle.laws.specs.Heap.UsedKept.{held-counted, reclaimed-unused}

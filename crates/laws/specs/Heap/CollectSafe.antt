@@ -8,13 +8,14 @@ use Rattle.terms.specs.Limits.{OBJECTS, owner}
 use Rattle.terms.specs.Numbers.{ACCEPTED}
 use Rattle.heap.specs.declared.Object.{Object}
 use Rattle.heap.specs.Heap.{isLive}
+use Rattle.heap.specs.HeapLaws.{live-number}
 use Rattle.table.specs.declared.Table.{Table}
 use Rattle.step.specs.Collect.{collectHolding, collectKeeping}
 use Rattle.step.specs.Event.{COLLECT, event, kindOf}
 use Rattle.step.specs.Step.{ruleFor, step}
 use Rattle.laws.specs.Events.Answered.{counting, done}
 use Rattle.laws.specs.Heap.Collected.{collected, isGone, live-after, object-stays}
-use Rattle.laws.specs.Heap.Holding.{live-number, sound-held}
+use Rattle.laws.specs.Heap.Holding.{sound-held}
 use Rattle.laws.specs.Heap.Nobody.{Bridge}
 use Rattle.laws.specs.Heap.Starts.{Kept, Reclaimed, reclaimed-is, stays-kept}
 use Rattle.laws.specs.Heap.UsedKept.{reclaimed-unused}

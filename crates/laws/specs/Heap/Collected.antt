@@ -17,6 +17,7 @@ use Rattle.entry.specs.AtNode.{setUnused}
 use Rattle.entry.specs.Entry.{isDirectory}
 use Rattle.heap.specs.declared.Object.{Object}
 use Rattle.heap.specs.Heap.{idle, isLive, objectAt, rootAt}
+use Rattle.heap.specs.HeapLaws.{live-number}
 use Rattle.heap.specs.Walk.{ownedBy}
 use Rattle.table.specs.declared.Cell.{Cell}
 use Rattle.table.specs.declared.Table.{Table}
@@ -24,7 +25,6 @@ use Rattle.table.specs.Formed.{Formed}
 use Rattle.table.specs.Table.{cellAt, cellWith, entryAt, entryIn}
 use Rattle.table.specs.TableLaws.{cell-kept, cell-set}
 use Rattle.step.specs.Collect.{cellCollected, heapCollected, heldAt, isReclaimed, kept, withCollected}
-use Rattle.laws.specs.Heap.Holding.{live-number}
 
 -- the table that COLLECT at p makes of t
 abbrev pub collected : Table → ℕ → Table

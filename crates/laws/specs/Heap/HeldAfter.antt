@@ -15,6 +15,7 @@ use Rattle.entry.specs.AtNode.{received}
 use Rattle.entry.specs.Fits.{fitsEntry}
 use Rattle.entry.specs.FitsLaws.{home}
 use Rattle.heap.specs.Heap.{fieldAt, isLive, isNone, rootAt}
+use Rattle.heap.specs.HeapLaws.{live-number}
 use Rattle.table.specs.declared.Message.the-variants.{Reference}
 use Rattle.table.specs.declared.Table.{Table}
 use Rattle.table.specs.Formed.{Formed}
@@ -30,7 +31,7 @@ use Rattle.laws.specs.Events.DidLaws.{did}
 use Rattle.laws.specs.Heap.AirKeeps.{clear-held, drop-held, receive-held, send-held, settle-held}
 use Rattle.laws.specs.Heap.CollectKeeps.{collect-held}
 use Rattle.laws.specs.Heap.HeapKeeps.{chosen-number, chosen-own, count-held, field-held, new-held, root-held}
-use Rattle.laws.specs.Heap.Holding.{WellHeld, live-number, well-named}
+use Rattle.laws.specs.Heap.Holding.{WellHeld, well-named}
 use Rattle.laws.specs.Heap.Nobody.{Bridge}
 
 -- in shape, a directory stands at the owner only

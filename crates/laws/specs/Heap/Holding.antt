@@ -1,13 +1,11 @@
 -- What it means that a node holds well what it holds (document 01, TORN of COLLECT; `holdsWell` of specs/Sound.antt), said in propositions,
 -- and the four conditions of Sound that speak of the heap, by themselves. Assumes nothing.
-use mathlib.Core.Path.{_≡_, sym, _∙_}
-use mathlib.Core.Bool.{true, false≢true}
+use mathlib.Core.Path.{_≡_}
+use mathlib.Core.Bool.{true}
 use mathlib.Core.Logic.{_↔_, _⊎_, inl, inr, ⊎-elim}
 use Prim.Native.Nat.{ℕ, _<_}
-use native.Mathlib.Decide.{decLt}
 use native.Mathlib.Omega.{arith}
 use borrow.Author.Tests.{eqb-true, eq-eqb}
-use lib.ListN.{length}
 use Rattle.terms.specs.Choose.{_and_, _or_}
 use Rattle.terms.specs.ChooseLaws.{and-passes, or-passes}
 use Rattle.terms.specs.Counted.{holds, listFrom}
@@ -17,7 +15,6 @@ use Rattle.terms.specs.ListLaws.{holds-list}
 use Rattle.entry.specs.Entry.{isDirectory, isPresent}
 use Rattle.heap.specs.declared.Heap.{Heap}
 use Rattle.heap.specs.Heap.{fieldAt, isLive, isNone, rootAt, rootsOf}
-use Rattle.heap.specs.HeapLaws.{not-live}
 use Rattle.heap.specs.Walk.{ownedBy}
 use Rattle.table.specs.declared.Table.{Table}
 use Rattle.table.specs.Table.{entryAt, isReferenceOf, messageAt}
@@ -56,10 +53,6 @@ well-is t p x = (
 -- an object number that is held well is such an object
 pub well-named : (t : Table) (p x : ℕ) → x < OBJECTS → holdsWell t p x ≡ true → Named t p x
 well-named t p x lt e = ⊎-elim (λ none. absurd (omega arith)) (λ n. n) (well-is t p x .0 e)
-
--- a live object has an object number
-pub live-number : (h : Heap) (o : ℕ) → length (h .objects) ≡ OBJECTS → isLive h o ≡ true → o < OBJECTS
-live-number h o size live = elim (decLt o OBJECTS) [ yes lt ↦ lt | no past ↦ absurd (false≢true (sym (not-live h o (omega arith)) ∙ live)) ]
 
 -- a node's roots hold x exactly where one of the eight is x
 pub roots-hold : (h : Heap) (p x : ℕ) → (holds (rootsOf h p) x ≡ true) ↔ Some ROOTS (λ r. rootAt h p r ≡ x)

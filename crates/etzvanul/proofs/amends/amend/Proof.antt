@@ -23,7 +23,7 @@ use Rattle.step.specs.declared.Kind.{Kind}
 use Rattle.step.specs.declared.Kind.the-variants.{New, Move, Clear, Load, Store, Send, Receive, Settle, Collect, Drop, Unknown}
 use Rattle.step.specs.Event.{COLLECT, fitsEvent, kindOf}
 use Rattle.etzvanul.specs.Amended.{Asked, unfit-back, ended-back}
-use Rattle.etzvanul.proofs.Slices.{are-bytes, slice-told}
+use Rattle.etzvanul.proofs.Slices.{slice-bytes, slice-told}
 use Rattle.etzvanul.proofs.amends.amend.Statement.{statement}
 use Rattle.etzvanul.proofs.amends.amend.Tie as tie
 
@@ -60,7 +60,7 @@ other-kind n ne is =
 
 counted : (l : List ℕ) → ((i : ℕ) → Fits w8 (getD l i 0)) → read l .answer ≡ ACCEPTED → (found : Found) → found ≡ foundFrom 0 0 l → (n : ℕ)
     → n ≡ countIn (found .held) → n ≡ read l .table .count
-counted l each accepted found is n tells = tells ∙ ap (λ (f : Found). countIn (f .held)) is ∙ count-told l (are-bytes l each) accepted
+counted l each accepted found is n tells = tells ∙ ap (λ (f : Found). countIn (f .held)) is ∙ count-told l (slice-bytes l each) accepted
 
 -- the tests are passed
 passed : (l : List ℕ) → ((i : ℕ) → Fits w8 (getD l i 0)) → read l .answer ≡ ACCEPTED → (e : Event) → fitsEvent e ≡ true

@@ -2,20 +2,11 @@
 -- Assumes nothing.
 use native.Mathlib.Omega.{arith}
 use borrow.Author.Needs.{needs}
-use Rattle.image.specs.Reader.{read}
 use Rattle.image.specs.RoundTrip.{accepted-size}
 use Rattle.etzvanul.specs.Amended.{change-orderly, change-back}
-use Rattle.etzvanul.specs.GoesOn.{goes-on}
-use Rattle.etzvanul.proofs.Slices.{are-bytes, slice-told}
+use Rattle.etzvanul.proofs.Slices.{slice-bytes, slice-told}
 use Rattle.etzvanul.proofs.amends.change.Statement.{statement}
 use Rattle.etzvanul.proofs.amends.change.Tie as tie
-
-plan-of-requires : tie.Need-plan-of-requires
-plan-of-requires c κs =
-    let s = c .before .before in
-    let l = s .args .image .now in
-    let asked = s .pre .0 in
-    (asked .fits, goes-on l (read l .table) (slice-told l (c .before .shared-slice-known .given) (asked .accepted)))
 
 add-planned : tie.Need-add-planned
 add-planned c = omega (arith, c .before .before .before .pre .0 .more)
@@ -27,14 +18,11 @@ planned-requires c κs =
     let l = a .image .now in
     let each = c .before .before .before .shared-slice-known .given in
     let asked = s .pre .0 in
-    let size = accepted-size l (are-bytes l each) (asked .accepted) in
+    let size = accepted-size l (slice-bytes l each) (asked .accepted) in
     let told = slice-told l each (asked .accepted) in (
       omega (arith, size .1),
       change-orderly l told (a .e) (a .count) asked (a .out .now) (s .pre .1) (c .before .plan-of .result) (c .before .plan-of .ensures),
     )
-
-same-length : tie.Need-same-length
-same-length c = search needs
 
 returns : tie.Need-returns
 returns c =
@@ -49,4 +37,4 @@ returns c =
     (p .planned .ensures .0) (p .planned .ensures .1)
 
 pub change-spec : {M : Type 1} → statement M
-change-spec = tie.close (tie.spec plan-of-requires add-planned planned-requires same-length returns)
+change-spec = tie.close (tie.spec (search needs) add-planned planned-requires (search needs) returns)

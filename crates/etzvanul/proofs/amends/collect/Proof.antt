@@ -4,20 +4,10 @@ use borrow.Author.Needs.{needs}
 use Rattle.image.specs.Reader.{read}
 use Rattle.image.specs.RoundTrip.{accepted-size}
 use Rattle.etzvanul.specs.Amended.{collect-node, collect-orderly, collect-back}
-use Rattle.etzvanul.specs.Onward.{scannable}
 use Rattle.etzvanul.specs.SweepOnward.{resumes}
-use Rattle.etzvanul.proofs.Slices.{are-bytes, slice-told}
+use Rattle.etzvanul.proofs.Slices.{slice-bytes, slice-told}
 use Rattle.etzvanul.proofs.amends.collect.Statement.{statement}
 use Rattle.etzvanul.proofs.amends.collect.Tie as tie
-
-sweep-requires : tie.Need-sweep-requires
-sweep-requires c κs =
-    let s = c .before .before in
-    let a = s .args in
-    let l = a .image .now in
-    let asked = s .pre .0 in
-    let told = slice-told l (c .before .shared-slice-known .given) (asked .accepted) in
-    (collect-node l told (a .e) (a .count) asked (a .out .now) (s .pre .1), scannable l (read l .table) told)
 
 add-swept : tie.Need-add-swept
 add-swept c = omega (arith, c .before .before .before .pre .0 .more)
@@ -29,14 +19,13 @@ swept-requires c κs =
     let l = a .image .now in
     let each = c .before .before .before .shared-slice-known .given in
     let asked = s .pre .0 in
-    let size = accepted-size l (are-bytes l each) (asked .accepted) in
+    let are = slice-bytes l each in
+    let size = accepted-size l are (asked .accepted) in
     let told = slice-told l each (asked .accepted) in
-    let orderly = collect-orderly l told (a .e) (a .count) asked (a .out .now) (s .pre .1) (c .before .sweep .result) (c .before .sweep .ensures) in
-    let onward = resumes l (a .e .a) (c .before .sweep .result) (scannable l (read l .table) told) (c .before .sweep .ensures) in
-    (collect-node l told (a .e) (a .count) asked (a .out .now) (s .pre .1), (omega (arith, size .1), (orderly, onward)))
-
-same-length : tie.Need-same-length
-same-length c = search needs
+    let node = collect-node l told (a .e) (a .count) asked (a .out .now) (s .pre .1) in
+    let orderly = collect-orderly l told (a .e) (a .count) asked (a .out .now) (s .pre .1) (c .before .sweep-of .result) (c .before .sweep-of .ensures) in
+    let onward = resumes l are (read l .table) told (a .e .a) node (c .before .sweep-of .result) (c .before .sweep-of .ensures) in
+    (node, (omega (arith, size .1), (orderly, onward)))
 
 returns : tie.Need-returns
 returns c =
@@ -47,8 +36,8 @@ returns c =
     let l = a .image .now in
     let asked = s .pre .0 in
     let told = slice-told l (w .before .before .shared-slice-known .given) (asked .accepted) in
-    collect-back l told (a .e) (a .count) asked (a .out .now) (s .pre .1) (w .sweep .result) (w .sweep .ensures) _ _
+    collect-back l told (a .e) (a .count) asked (a .out .now) (s .pre .1) (w .sweep-of .result) (w .sweep-of .ensures) _ _
     (p .swept .ensures .0) (p .swept .ensures .1)
 
 pub collect-spec : {M : Type 1} → statement M
-collect-spec = tie.close (tie.spec sweep-requires add-swept swept-requires same-length returns)
+collect-spec = tie.close (tie.spec (search needs) add-swept swept-requires (search needs) returns)

@@ -8,7 +8,7 @@ use Rattle.terms.specs.Numbers.{ACCEPTED}
 use Rattle.etzvanul.specs.Comes.{call-not, call-short, call-done}
 use Rattle.etzvanul.specs.HostCall.{numberOfCall}
 use Rattle.etzvanul.specs.Orderly.{others, new-length, after-most}
-use Rattle.etzvanul.specs.Plan.{newImage}
+use Rattle.etzvanul.specs.Spliced.{newImage}
 use Rattle.etzvanul.proofs.amends.planned.Statement.{statement}
 use Rattle.etzvanul.proofs.amends.planned.Tie as tie
 

@@ -6,8 +6,9 @@ use Rattle.terms.specs.Numbers.{ACCEPTED}
 use Rattle.step.specs.declared.Deed.the-variants.{Collected}
 use Rattle.etzvanul.specs.Comes.{call-not, call-short, call-done}
 use Rattle.etzvanul.specs.HostCall.{numberOfCall}
-use Rattle.etzvanul.specs.Sweep.{sweepChanges, sweptImage}
+use Rattle.plan.specs.Sweep.{sweepChanges}
 use Rattle.etzvanul.specs.SweptLength.{swept-most}
+use Rattle.etzvanul.specs.Spliced.{sweptImage}
 use Rattle.etzvanul.proofs.amends.swept.Statement.{statement}
 use Rattle.etzvanul.proofs.amends.swept.Tie as tie
 

@@ -9,7 +9,7 @@ use Rattle.terms.specs.Limits.{NODES}
 use Rattle.terms.specs.ListLaws.{Filled, filled-none, filled-set, filled-all}
 use Rattle.entry.specs.declared.Entry.the-variants.{Absent}
 use Rattle.table.specs.declared.Slot.{Slot}
-use Rattle.etzvanul.specs.Plan.{entryOf}
+use Rattle.plan.specs.Plan.{entryOf}
 use Rattle.etzvanul.proofs.depths.cell_in.Statement.{statement}
 use Rattle.etzvanul.proofs.depths.cell_in.Tie as tie
 
@@ -28,8 +28,8 @@ abbrev μ-loop : tie.MeasureT-loop
 loop-holds : tie.Need-loop-holds Inv-loop μ-loop
 loop-holds c = (omega arith, filled-none)
 
-entry-spot-requires : tie.Need-entry-spot-requires Inv-loop μ-loop
-entry-spot-requires c κs = search needs
+entry-from-requires : tie.Need-entry-from-requires Inv-loop μ-loop
+entry-from-requires c κs = search needs
 
 cast-k : tie.Need-cast-k Inv-loop μ-loop
 cast-k c = search needs
@@ -52,7 +52,7 @@ loop-less c = omega arith
 loop-again : tie.Need-loop-again Inv-loop μ-loop
 loop-again c =
     let l = c .before .before .before in
-    (omega arith, filled-set (l .loop .inv .1) _ (c .before .before .loop-test .taken) (rw (c .entry .ensures, c .before .entry-spot .ensures)))
+    (omega arith, filled-set (l .loop .inv .1) _ (c .before .before .loop-test .taken) (rw (c .entry .ensures, c .before .entry-from .ensures)))
 
 returns : tie.Need-returns Inv-loop μ-loop
 returns c = filled-all (c .before .loop .inv .1) NODES refl (c .loop-test .left)
@@ -64,7 +64,7 @@ cell-in-spec =
     Inv-loop
     μ-loop
     loop-holds
-    entry-spot-requires
+    entry-from-requires
     cast-k
     entry-requires
     mul-at

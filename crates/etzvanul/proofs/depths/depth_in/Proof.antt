@@ -14,8 +14,8 @@ use Rattle.table.specs.declared.Slot.{Slot}
 use Rattle.table.specs.declared.Table.{Table}
 use Rattle.table.specs.Depth.{depthReport, depthNumber, depth}
 use Rattle.table.specs.Table.{cellAt}
-use Rattle.etzvanul.specs.Plan.{entryOf}
-use Rattle.etzvanul.specs.Told.{Told}
+use Rattle.plan.specs.Plan.{entryOf}
+use Rattle.plan.specs.Told.{Told}
 use Rattle.etzvanul.proofs.depths.depth_in.Statement.{statement}
 use Rattle.etzvanul.proofs.depths.depth_in.Tie as tie
 

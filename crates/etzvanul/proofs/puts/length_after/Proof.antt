@@ -2,7 +2,7 @@
 use Prim.Native.Nat.{ℕ, _≤_}
 use native.Mathlib.Omega.{arith}
 use Rattle.image.specs.Stored.{FULL}
-use Rattle.etzvanul.specs.declared.Plan.{Plan}
+use Rattle.plan.specs.declared.Plan.{Plan}
 use Rattle.etzvanul.specs.Orderly.{Orderly, others}
 use Rattle.etzvanul.proofs.Going.{Lasting, taken, lasting-on}
 use Rattle.etzvanul.proofs.puts.length_after.Statement.{statement}

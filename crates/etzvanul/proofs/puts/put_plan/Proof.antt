@@ -5,7 +5,7 @@ use lib.ListN.{length}
 use lib.Seq.{length-sets}
 use Rattle.terms.specs.BufferLaws.{sets-front}
 use Rattle.etzvanul.specs.Orderly.{others}
-use Rattle.etzvanul.specs.Plan.{newImage}
+use Rattle.etzvanul.specs.Spliced.{newImage}
 use Rattle.etzvanul.proofs.Going.{start, begun, on, ready, rest-room, ended}
 use Rattle.etzvanul.proofs.puts.put_plan.Statement.{statement}
 use Rattle.etzvanul.proofs.puts.put_plan.Tie as tie

@@ -8,9 +8,9 @@ use lib.Seq.{length-sets}
 use Rattle.terms.specs.BufferLaws.{sets-front}
 use Rattle.terms.specs.Limits.{OBJECTS, OWNED}
 use Rattle.image.specs.Order.{position}
-use Rattle.etzvanul.specs.Onward.{From, from-later}
-use Rattle.etzvanul.specs.Sweep.{sweptImage}
+use Rattle.splice.specs.Onward.{From, from-later}
 use Rattle.etzvanul.specs.SweepOnward.{first-on, object-on, directory-on, entry-on}
+use Rattle.etzvanul.specs.Spliced.{sweptImage}
 use Rattle.etzvanul.proofs.Going.{Going, ready, rest-room, ended}
 use Rattle.etzvanul.proofs.Sweeping.{objectsLeft, directoriesLeft, entriesLeft}
 use Rattle.etzvanul.proofs.Sweeping.{object-next, objects-done, directory-next, directories-done, entry-next, entries-done}
@@ -86,7 +86,7 @@ loop-again c =
     let x = c .before .before .before .object-gone in
     let next = object-next (a .l .now) (a .p) (a .s) (e .loop .i) lt in
     let put = c .before .before .put-change .ensures in
-    let on = object-on (s .pre .1 .1) (s .pre .0) (put .place) (e .loop .i) lt (x .ensures) (e .loop .inv .2) in
+    let on = object-on (s .pre .1 .1) (put .place) (e .loop .i) lt (x .ensures) (e .loop .inv .2) in
     (omega arith, on-next (e .loop .inv .1) next (x .ensures) put, on)
 
 loop2-holds : tie.Need-loop2-holds Inv-loop μ-loop Inv-loop2 μ-loop2 Inv-loop3 μ-loop3
@@ -125,7 +125,7 @@ loop2-again c =
     let x = c .before .before .before .directory-gone in
     let next = directory-next (a .l .now) (a .p) (a .s) (e .loop2 .k) lt in
     let put = c .before .before .put-change2 .ensures in
-    let on = directory-on (s .pre .1 .1) (s .pre .0) (put .place) (e .loop2 .k) lt (x .ensures) (e .loop2 .inv .2) in
+    let on = directory-on (s .pre .1 .1) (put .place) (e .loop2 .k) lt (x .ensures) (e .loop2 .inv .2) in
     (omega arith, on-next (e .loop2 .inv .1) next (x .ensures) put, on)
 
 loop3-holds : tie.Need-loop3-holds Inv-loop μ-loop Inv-loop2 μ-loop2 Inv-loop3 μ-loop3
@@ -164,7 +164,7 @@ loop3-again c =
     let x = c .before .before .before .entry-unused in
     let next = entry-next (a .l .now) (a .p) (a .s) (e .loop3 .o) lt in
     let put = c .before .before .put-change3 .ensures in
-    let on = entry-on (s .pre .1 .1) (s .pre .0) (put .place) (e .loop3 .o) lt (x .ensures) (e .loop3 .inv .2) in
+    let on = entry-on (s .pre .1 .1) (put .place) (e .loop3 .o) lt (x .ensures) (e .loop3 .inv .2) in
     (omega arith, on-next (e .loop3 .inv .1) next (x .ensures) put, on)
 
 sub-rest : tie.Need-sub-rest Inv-loop μ-loop Inv-loop2 μ-loop2 Inv-loop3 μ-loop3

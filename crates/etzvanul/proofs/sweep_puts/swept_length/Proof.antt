@@ -9,7 +9,7 @@ use borrow.Author.Needs.{needs}
 use Rattle.terms.specs.Limits.{OWNED}
 use Rattle.image.specs.Order.{position}
 use Rattle.image.specs.Stored.{FULL}
-use Rattle.etzvanul.specs.Onward.{From, from-later}
+use Rattle.splice.specs.Onward.{From, from-later}
 use Rattle.etzvanul.specs.Orderly.{lengthAfter}
 use Rattle.etzvanul.specs.SweepOnward.{first-on, object-on, directory-on}
 use Rattle.etzvanul.specs.SweptLength.{unused-all}
@@ -73,7 +73,7 @@ loop-again c =
     let lt = c .before .before .before .loop-test .taken in
     let x = c .before .before .object-gone in
     let first = object-next (a .l .now) (a .p) (a .s) (e .loop .i) lt in
-    let onward = object-on (s .pre .1 .1) (s .pre .0) (c .place-after .ensures) (e .loop .i) lt (x .ensures) (e .loop .inv .2) in
+    let onward = object-on (s .pre .1 .1) (c .place-after .ensures) (e .loop .i) lt (x .ensures) (e .loop .inv .2) in
     (omega arith, measured-on (e .loop .inv .1) first (x .ensures) (c .before .length-with .ensures) (omega arith), onward)
 
 loop2-holds : tie.Need-loop2-holds Inv-loop μ-loop Inv-loop2 μ-loop2
@@ -116,7 +116,7 @@ loop2-again c =
     let lt = c .before .before .before .loop2-test .taken in
     let x = c .before .before .directory-gone in
     let first = directory-next (a .l .now) (a .p) (a .s) (e .loop2 .k) lt in
-    let onward = directory-on (s .pre .1 .1) (s .pre .0) (c .place-after2 .ensures) (e .loop2 .k) lt (x .ensures) (e .loop2 .inv .2) in
+    let onward = directory-on (s .pre .1 .1) (c .place-after2 .ensures) (e .loop2 .k) lt (x .ensures) (e .loop2 .inv .2) in
     (omega arith, measured-on (e .loop2 .inv .1) first (x .ensures) (c .before .length-with2 .ensures) (omega arith), onward)
 
 returns : tie.Need-returns Inv-loop μ-loop Inv-loop2 μ-loop2

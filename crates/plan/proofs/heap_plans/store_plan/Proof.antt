@@ -1,0 +1,125 @@
+-- `plan::heap_plans::store_plan` meets its contract: each refusal in the order in which it is tried, then the change. Assumes nothing.
+use borrow.Author.Needs.{needs}
+use borrow.Author.Tests.{eq-eqb, ne-eqb, not-false, not-true}
+use Rattle.plan.specs.Plan.{storePlan}
+use Rattle.plan.proofs.heap_plans.store_plan.Statement.{statement}
+use Rattle.plan.proofs.heap_plans.store_plan.Tie as tie
+
+roots-from-requires : tie.Need-roots-from-requires
+roots-from-requires c κs = search needs
+
+roots-requires : tie.Need-roots-requires
+roots-requires c κs = search needs
+
+root-requires : tie.Need-root-requires
+root-requires c κs = search needs
+
+refused-requires : tie.Need-refused-requires
+refused-requires c κs = search needs
+
+returns : tie.Need-returns
+unfolding storePlan
+returns c =
+    let root = c .before .before in
+    rw (
+      c .refused .ensures,
+      ← root .before .before .roots-from .ensures,
+      ← root .before .roots .ensures,
+      ← root .root .ensures,
+      eq-eqb _ _ (c .before .if1 .taken),
+    )
+
+refused-requires-2 : tie.Need-refused-requires-2
+refused-requires-2 c κs = search needs
+
+returns-2 : tie.Need-returns-2
+unfolding storePlan
+returns-2 c =
+    let root = c .before .before .before in
+    rw (
+      c .refused2 .ensures,
+      ← root .before .before .roots-from .ensures,
+      ← root .before .roots .ensures,
+      ← root .root .ensures,
+      ne-eqb _ _ (c .before .before .if1 .left),
+      ne-eqb _ _ (c .before .if2 .taken),
+    )
+
+object-from-requires : tie.Need-object-from-requires
+object-from-requires c κs = search needs
+
+object-requires : tie.Need-object-requires
+object-requires c κs = search needs
+
+refused-requires-3 : tie.Need-refused-requires-3
+refused-requires-3 c κs = search needs
+
+returns-3 : tie.Need-returns-3
+unfolding storePlan
+returns-3 c =
+    let object = c .before .before .before in
+    let root = object .before .before .before .before in
+    rw (
+      c .refused3 .ensures,
+      ← root .before .before .roots-from .ensures,
+      ← root .before .roots .ensures,
+      ← root .root .ensures,
+      ne-eqb _ _ (object .before .before .before .if1 .left),
+      eq-eqb _ _ (object .before .before .if2 .left),
+      ← object .before .object-from .ensures,
+      ← object .object .ensures,
+      not-true (object .object .result .live) (c .before .if3 .taken),
+    )
+
+root-requires-2 : tie.Need-root-requires-2
+root-requires-2 c κs = search needs
+
+with-field-requires : tie.Need-with-field-requires
+with-field-requires c κs = search needs
+
+of-object-requires : tie.Need-of-object-requires
+of-object-requires c κs = search needs
+
+replaced-requires : tie.Need-replaced-requires
+replaced-requires c κs = search needs
+
+returns-4 : tie.Need-returns-4
+unfolding storePlan
+returns-4 c =
+    let object = c .before .before .before .before .before .before in
+    let root = object .before .before .before .before in
+    rw (
+      c .replaced .ensures,
+      c .before .of-object .ensures,
+      c .before .before .with-field .ensures,
+      c .before .before .before .root2 .ensures,
+      ← root .before .before .roots-from .ensures,
+      ← root .before .roots .ensures,
+      ← root .root .ensures,
+      ne-eqb _ _ (object .before .before .before .if1 .left),
+      eq-eqb _ _ (object .before .before .if2 .left),
+      ← object .before .object-from .ensures,
+      ← object .object .ensures,
+      not-false (object .object .result .live) (c .before .before .before .before .if3 .left),
+    )
+
+pub store-plan-spec : {M : Type 1} → statement M
+store-plan-spec =
+    tie.close
+    (tie.spec
+    roots-from-requires
+    roots-requires
+    root-requires
+    refused-requires
+    returns
+    refused-requires-2
+    returns-2
+    object-from-requires
+    object-requires
+    refused-requires-3
+    returns-3
+    root-requires-2
+    with-field-requires
+    of-object-requires
+    replaced-requires
+    returns-4)

@@ -1,0 +1,14 @@
+pub mod Accepted
+pub mod HeapPlans
+pub mod MadePlans
+pub mod Matched
+pub mod MessagePlans
+pub mod Picks
+pub mod Plan
+pub mod Planned
+pub mod Plans
+pub mod Sweep
+pub mod SweepDiffers
+pub mod SweepLaws
+pub mod SweepMatches
+pub mod Told
