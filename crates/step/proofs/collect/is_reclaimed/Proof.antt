@@ -29,4 +29,4 @@ returns-3 c = rw (
 
 pub is-reclaimed-spec : {M : Type 1} → statement M
 is-reclaimed-spec =
-    tie.close (tie.spec returns (search needs) returns-2 (search needs) returns-3)
+    tie.close (tie.spec returns (search needs) returns-2 is-marked-requires returns-3)
