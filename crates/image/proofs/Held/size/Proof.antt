@@ -8,10 +8,9 @@ pub size-spec : {M : Type 1} → statement M
 unfolding sizeOf
 size-spec =
     tie.close (tie.spec
-    (λ c. search needs) (λ c. search needs) (λ c. search needs)
+    (search needs) (search needs) (search needs)
     (λ c. simp (c .before .before .self2 .given .1, c .if1 .taken))
-    (λ c. search needs) (λ c. search needs) (λ c. search needs) (λ c. search needs) (λ c. search needs)
-    (λ c. search needs) (λ c. search needs) (λ c. search needs) (λ c. search needs)
+    (search needs) (search needs) (search needs) (search needs) (search needs) (search needs) (search needs) (search needs) (search needs)
     (λ c. rw (c .enum-told .given .1))
     (λ c. rw (c .before .self .given .1))
     (λ c. simp (c .before .before .self2 .given .1, c .if1 .left))

@@ -21,4 +21,4 @@ returns c =
 pub decrement-in-spec : {M : Type 1} → statement M
 decrement-in-spec =
     tie.close (tie.spec
-    (λ c. search needs) (λ c. search needs) (λ c. search needs) (λ c κs. search needs) (λ c κs. search needs) returns)
+    (search needs) (search needs) (search needs) (search needs) (search needs) returns)

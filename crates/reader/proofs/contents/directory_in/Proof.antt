@@ -12,4 +12,5 @@ returns c =
     rw (c .returns-at .ensures, c .before .number-at .ensures) (sym (ap directoryEntry (directory-numbers l)))
 
 pub directory-in-spec : {M : Type 1} → statement M
-directory-in-spec = tie.close (tie.spec (λ c κs. search needs) (λ c κs. search needs) returns)
+directory-in-spec = tie.close (tie.spec
+    (search needs) (search needs) returns)

@@ -9,4 +9,5 @@ unfolding fitsRecord
 returns c = simp (c .number-at .ensures)
 
 pub fits-count-spec : {M : Type 1} → statement M
-fits-count-spec = tie.close (tie.spec (λ c κs. search needs) returns)
+fits-count-spec = tie.close (tie.spec
+    (search needs) returns)

@@ -10,7 +10,7 @@ pub fits-live-spec : {M : Type 1} → statement M
 unfolding fitsRecord
 fits-live-spec =
     tie.close (tie.spec
-    (λ c. search needs)
+    (search needs)
     (λ c. simp (byte-at, le-ltb _ _ (c .if1 .taken)))
-    (λ c κs. search needs) (λ c κs. search needs)
+    (search needs) (search needs)
     (λ c. simp (c .fits2 .ensures, c .before .object-in .ensures, byte-at, lt-ltb _ _ (c .before .before .if1 .left))))

@@ -11,4 +11,5 @@ returns c = sym (ap liveObject (live-numbers (c .before .before .before .before 
 
 pub object-in-spec : {M : Type 1} → statement M
 object-in-spec =
-    tie.close (tie.spec (λ c. search needs) (λ c. search needs) (λ c. search needs) (λ c. search needs) returns)
+    tie.close (tie.spec
+    (search needs) (search needs) (search needs) (search needs) returns)

@@ -18,4 +18,5 @@ returns c = sym (ap place (reference-numbers (c .before .before .before .args .l
 
 pub reference-in-spec : {M : Type 1} → statement M
 reference-in-spec =
-    tie.close (tie.spec (λ c. search needs) (λ c. search needs) (λ c. search needs) returns)
+    tie.close (tie.spec
+    (search needs) (search needs) (search needs) returns)

@@ -15,5 +15,4 @@ returns c =
 pub remote-in-spec : {M : Type 1} → statement M
 remote-in-spec =
     tie.close (tie.spec
-    (λ c κs. search needs) (λ c. search needs) (λ c. search needs) (λ c κs. search needs) (λ c κs. search needs)
-    returns)
+    (search needs) (search needs) (search needs) (search needs) (search needs) returns)

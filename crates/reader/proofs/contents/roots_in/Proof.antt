@@ -12,5 +12,4 @@ returns c = sym (ap rootsOfNode (roots-numbers (c .before .before .before .befor
 pub roots-in-spec : {M : Type 1} → statement M
 roots-in-spec =
     tie.close (tie.spec
-    (λ c. search needs) (λ c. search needs) (λ c. search needs) (λ c. search needs) (λ c. search needs)
-    (λ c. search needs) (λ c. search needs) (λ c. search needs) returns)
+    (search needs) (search needs) (search needs) (search needs) (search needs) (search needs) (search needs) (search needs) returns)

@@ -12,4 +12,5 @@ returns c =
     let a = c .before .before .before .args in rw (is-end (a .kind) (sym (c .before .is-end .ensures) ∙ c .if1 .taken)) (behind HEAD (a .l .now))
 
 pub trails-spec : {M : Type 1} → statement M
-trails-spec = tie.close (tie.spec (λ c κs. search needs) returns (λ c. search needs))
+trails-spec = tie.close (tie.spec
+    (search needs) returns (λ c. search needs))

@@ -9,4 +9,5 @@ returns c = simp (c .with-entry .ensures, c .before .before .directory-in .ensur
 
 pub with-directory-spec : {M : Type 1} → statement M
 with-directory-spec =
-    tie.close (tie.spec (λ c κs. search needs) (λ c. search needs) (λ c κs. search needs) returns)
+    tie.close (tie.spec
+    (search needs) (search needs) (search needs) returns)

@@ -50,23 +50,30 @@ at-is : (c : At) (x : Spot) → x ≡ spotOf (kind c) (payload (kind c) (take (l
     → x .at ≡ positionOf (kind c) (payload (kind c) (left c))
 at-is c x e = ap (λ (y : Spot). y .at) e ∙ ap (λ (l : List ℕ). positionOf (kind c) (payload (kind c) l)) (all-left c)
 
+returns-2 : tie.Need-returns-2
+returns-2 c =
+    let k = c .before .before .before in
+    elsewhere _ (left k) (kind k) (whole k) (λ e. c .if2 .taken (at-is k _ (c .before .before .spot-of .ensures) ∙ e))
+
+returns-3 : tie.Need-returns-3
+returns-3 c =
+    let f = c .before .before .before in
+    refused _ _ _ (ap frameOf (sym (rest-is (f .before .before .before .before .args .bytes .now) (f .before .before .before .before .args .at)))
+    ∙ sym (f .frame-of .ensures) ∙ c .before .frame .given .1)
+
+returns-4 : tie.Need-returns-4
+returns-4 c =
+    let k = c .before .before .before .before in
+    c .held-in .ensures
+    ∙ ap (λ (l : List ℕ). heldIn (kind k) (payload (kind k) l)) (all-left k)
+    ∙ told _ (left k) (kind k) (whole k) (sym (at-is k _ (c .before .before .before .spot-of .ensures)) ∙ c .before .if2 .left)
+
 pub held-at-spec : {M : Type 1} → statement M
 held-at-spec =
     tie.close (tie.spec
     (λ c. no-record _ _ _ (c .if1 .taken))
-    (λ c. search needs) (λ c. search needs) (λ c. search needs) (λ c κs. search needs) (λ c. search needs)
-    (λ c. search needs)
+    (search needs) (search needs) (search needs) (search needs) (search needs) (search needs)
     (λ c κs. long c)
-    (λ c.
-    let k = c .before .before .before in
-    elsewhere _ (left k) (kind k) (whole k) (λ e. c .if2 .taken (at-is k _ (c .before .before .spot-of .ensures) ∙ e)))
+    returns-2
     (λ c κs. long (c .before .before .before))
-    (λ c.
-    let f = c .before .before .before in
-    refused _ _ _ (ap frameOf (sym (rest-is (f .before .before .before .before .args .bytes .now) (f .before .before .before .before .args .at)))
-    ∙ sym (f .frame-of .ensures) ∙ c .before .frame .given .1))
-    (λ c.
-    let k = c .before .before .before .before in
-    c .held-in .ensures
-    ∙ ap (λ (l : List ℕ). heldIn (kind k) (payload (kind k) l)) (all-left k)
-    ∙ told _ (left k) (kind k) (whole k) (sym (at-is k _ (c .before .before .before .spot-of .ensures)) ∙ c .before .if2 .left)))
+    returns-3 returns-4)

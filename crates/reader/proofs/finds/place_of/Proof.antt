@@ -6,11 +6,9 @@ use Rattle.reader.proofs.finds.place_of.Tie as tie
 pub place-of-spec : {M : Type 1} → statement M
 place-of-spec =
     tie.close (tie.spec
-    (λ c. search needs) (λ c. search needs) (λ c κs. search needs) (λ c. search needs) (λ c. search needs)
-    (λ c κs. search needs) (λ c. search needs) (λ c. search needs) (λ c κs. search needs) (λ c. search needs)
-    (λ c. search needs) (λ c κs. search needs) (λ c. search needs) (λ c κs. search needs) (λ c. search needs)
-    (λ c. search needs) (λ c. search needs) (λ c κs. search needs) (λ c. search needs) (λ c. search needs)
-    (λ c κs. search needs) (λ c. search needs) (λ c. search needs) (λ c. search needs) (λ c. search needs)
+    (search needs) (search needs) (search needs) (search needs) (search needs) (search needs) (search needs) (search needs) (search needs)
+    (search needs) (search needs) (search needs) (search needs) (search needs) (search needs) (search needs) (search needs) (search needs)
+    (search needs) (search needs) (search needs) (search needs) (search needs) (search needs) (λ c. search needs)
     (λ c. rw (c .before .enum-told2 .given .1, c .wide .ensures))
     (λ c. rw (c .before .enum-told3 .given .1, c .wide2 .ensures))
     (λ c. rw (c .before .enum-told4 .given .1, c .wide3 .ensures))

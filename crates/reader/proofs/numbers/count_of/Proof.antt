@@ -16,4 +16,5 @@ returns-2 : tie.Need-returns-2
 returns-2 c = ap returned (below-count (c .before .args .x) (c .if1 .left))
 
 pub count-of-spec : {M : Type 1} → statement M
-count-of-spec = tie.close (tie.spec (λ c. search needs) returns (λ c. search needs) (λ c. search needs) sub-t6 returns-2)
+count-of-spec = tie.close (tie.spec
+    (search needs) returns (search needs) (search needs) sub-t6 returns-2)

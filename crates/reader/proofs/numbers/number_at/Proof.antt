@@ -11,5 +11,4 @@ returns c = let s = c .before .before .before .before .before .before in c .quad
 pub number-at-spec : {M : Type 1} → statement M
 number-at-spec =
     tie.close (tie.spec
-    (λ c. search needs) (λ c. search needs) (λ c. search needs) (λ c. search needs) (λ c. search needs)
-    (λ c. search needs) (λ c. search needs) (λ c κs. search needs) returns)
+    (search needs) (search needs) (search needs) (search needs) (search needs) (search needs) (search needs) (search needs) returns)

@@ -8,4 +8,5 @@ returns : tie.Need-returns
 returns c = rw (c .count-of .ensures, c .before .number-at .ensures)
 
 pub returns-at-spec : {M : Type 1} → statement M
-returns-at-spec = tie.close (tie.spec (λ c κs. search needs) (λ c κs. search needs) returns)
+returns-at-spec = tie.close (tie.spec
+    (search needs) (search needs) returns)

@@ -8,4 +8,5 @@ returns : tie.Need-returns
 returns c = simp (c .wide .ensures)
 
 pub up-to-spec : {M : Type 1} → statement M
-up-to-spec = tie.close (tie.spec (λ c κs. search needs) (λ c. search needs) (λ c. search needs) returns)
+up-to-spec = tie.close (tie.spec
+    (search needs) (search needs) (search needs) returns)

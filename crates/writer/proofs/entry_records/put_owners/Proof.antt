@@ -17,4 +17,4 @@ returns c =
 pub put-owners-spec : {M : Type 1} → statement M
 put-owners-spec =
     tie.close (tie.spec
-    (λ c κs. search needs) (λ c κs. search needs) (λ c κs. search needs) (λ c κs. search needs) returns)
+    (search needs) (search needs) (search needs) (search needs) returns)

@@ -7,7 +7,7 @@ use Rattle.writer.proofs.entry_records.put_remote.Tie as tie
 pub put-remote-spec : {M : Type 1} → statement M
 put-remote-spec =
     tie.close (tie.spec
-    (λ c. search needs) (λ c. search needs) (λ c. search needs) (λ c κs. search needs)
+    (search needs) (search needs) (search needs) (search needs)
     (λ c. rw (c .enum-told .given .1) (put-none _ _ _))
     (λ c. rw (c .enum-told2 .given .1) (put-none _ _ _))
     (λ c. rw (c .before .before .before .e .given .1) (c .put-elsewhere .ensures)))

@@ -19,8 +19,9 @@ put-air-spec =
     tie.close (tie.spec
     Inv-loop μ-loop
     (λ c. none-passed)
-    (λ c. search needs) (λ c. search needs) (λ c. search needs)
+    (search needs) (search needs) (search needs)
     (λ c κs. omega (arith, c .before .before .before .loop .inv .put .small, c .before .before .before .before .pre))
-    (λ c. search needs) (λ c. omega arith)
+    (search needs)
+    (λ c. omega arith)
     (λ c. one-more (c .before .before .before .before .loop .inv) (omega arith) (c .put-message .ensures))
     (λ c. all-passed (c .before .loop .inv) (omega arith)))

@@ -17,4 +17,4 @@ returns c =
 pub put-decrement-spec : {M : Type 1} → statement M
 put-decrement-spec =
     tie.close (tie.spec
-    (λ c κs. search needs) (λ c κs. search needs) (λ c κs. search needs) (λ c κs. search needs) returns)
+    (search needs) (search needs) (search needs) (search needs) returns)

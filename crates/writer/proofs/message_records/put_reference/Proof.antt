@@ -11,4 +11,5 @@ unfolding bytesOfAll
 returns c = whole (c .before .before .store-head .ensures then c .store-four .ensures) (omega arith)
 
 pub put-reference-spec : {M : Type 1} → statement M
-put-reference-spec = tie.close (tie.spec (λ c κs. search needs) (λ c κs. search needs) returns)
+put-reference-spec = tie.close (tie.spec
+    (search needs) (search needs) returns)

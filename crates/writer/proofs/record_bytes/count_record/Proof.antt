@@ -22,4 +22,4 @@ returns c =
 pub count-record-spec : {M : Type 1} → statement M
 count-record-spec =
     tie.close (tie.spec
-    (λ c κs. search needs) (λ c κs. search needs) (λ c κs. search needs) (λ c κs. search needs) returns)
+    (search needs) (search needs) (search needs) (search needs) returns)

@@ -6,8 +6,7 @@ use Rattle.writer.proofs.record_bytes.entry_record.Tie as tie
 pub entry-record-spec : {M : Type 1} → statement M
 entry-record-spec =
     tie.close (tie.spec
-    (λ c. search needs) (λ c κs. search needs) (λ c. search needs) (λ c κs. search needs) (λ c. search needs)
-    (λ c κs. search needs)
+    (search needs) (search needs) (search needs) (search needs) (search needs) (search needs)
     (λ c. rw (c .before .enum-told .given .1) (c .none .ensures))
     (λ c. rw (c .before .before .entry .given .1) (c .directory-record .ensures))
     (λ c. rw (c .before .before .entry2 .given .1) (c .remote-record .ensures)))

@@ -25,4 +25,5 @@ returns-2 c =
     })
 
 pub object-record-spec : {M : Type 1} → statement M
-object-record-spec = tie.close (tie.spec (λ c κs. search needs) returns returns-2)
+object-record-spec = tie.close (tie.spec
+    (search needs) returns returns-2)

@@ -6,9 +6,8 @@ use Rattle.writer.proofs.record_bytes.record_of.Tie as tie
 pub record-of-spec : {M : Type 1} → statement M
 record-of-spec =
     tie.close (tie.spec
-    (λ c. search needs) (λ c κs. search needs) (λ c. search needs) (λ c κs. search needs) (λ c. search needs)
-    (λ c κs. search needs) (λ c. search needs) (λ c κs. search needs) (λ c. search needs) (λ c κs. search needs)
-    (λ c. search needs) (λ c κs. search needs)
+    (search needs) (search needs) (search needs) (search needs) (search needs) (search needs) (search needs) (search needs) (search needs)
+    (search needs) (search needs) (search needs)
     (λ c. rw (c .before .enum-told .given .1) (c .none .ensures))
     (λ c. rw (c .before .before .held .given .1) (c .count-record .ensures))
     (λ c. rw (c .before .before .held2 .given .1) (c .object-record .ensures))

@@ -39,6 +39,5 @@ returns c =
 pub remote-record-spec : {M : Type 1} → statement M
 remote-record-spec =
     tie.close (tie.spec
-    (λ c κs. search needs) (λ c κs. search needs) (λ c κs. search needs) (λ c κs. search needs) (λ c κs. search needs)
-    (λ c κs. search needs) (λ c κs. search needs) (λ c κs. search needs) (λ c κs. search needs) (λ c κs. search needs)
-    (λ c κs. search needs) (λ c κs. search needs) (λ c κs. search needs) (λ c κs. search needs) returns)
+    (search needs) (search needs) (search needs) (search needs) (search needs) (search needs) (search needs) (search needs) (search needs)
+    (search needs) (search needs) (search needs) (search needs) (search needs) returns)

@@ -10,4 +10,5 @@ returns : tie.Need-returns
 returns c = record { place = refl; stands = rw (byte (c .args .a) (omega arith)) }
 
 pub store-byte-spec : {M : Type 1} → statement M
-store-byte-spec = tie.close (tie.spec (λ c. search needs) (λ c. search needs) returns)
+store-byte-spec = tie.close (tie.spec
+    (search needs) (search needs) returns)

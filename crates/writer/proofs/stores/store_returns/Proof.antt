@@ -7,4 +7,5 @@ returns : tie.Need-returns
 returns c = rw (c .before .before .bits-of .ensures) at (c .store-number .ensures)
 
 pub store-returns-spec : {M : Type 1} → statement M
-store-returns-spec = tie.close (tie.spec (λ c κs. search needs) (λ c κs. search needs) returns)
+store-returns-spec = tie.close (tie.spec
+    (search needs) (search needs) returns)

@@ -20,5 +20,4 @@ returns c =
 pub make-spec : {M : Type 1} → statement M
 make-spec =
     tie.close (tie.spec
-    (λ c κs. search needs) (λ c κs. search needs) (λ c κs. search needs) (λ c κs. search needs) (λ c κs. search needs)
-    (λ c κs. search needs) returns)
+    (search needs) (search needs) (search needs) (search needs) (search needs) (search needs) returns)

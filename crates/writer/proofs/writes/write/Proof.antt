@@ -21,4 +21,5 @@ returns-2 c =
     (put .0 ∙ simp good, (put .1 .0 ∙ simp good, put .1 .1 .0 ∙ simp good))
 
 pub write-spec : {M : Type 1} → statement M
-write-spec = tie.close (tie.spec (λ c κs. search needs) returns (λ c κs. search needs) (λ c. search needs) returns-2)
+write-spec = tie.close (tie.spec
+    (search needs) returns (search needs) (search needs) returns-2)
