@@ -1,6 +1,6 @@
 -- The spot of an entry, whichever sort it is (document 01, "The field table"): a table with one entry changed has the new record there, and
 -- the old ones at all other spots. Assumes nothing.
-use mathlib.Core.Path.{_≡_, ap, _∙_}
+use mathlib.Core.Path.{_≡_, sym, ap, _∙_}
 use mathlib.Core.Bool.{Bool, true, false}
 use mathlib.Core.List.{List, []}
 use Prim.Native.Nat.{ℕ, _+_, _*_, _≤_, _<_}
