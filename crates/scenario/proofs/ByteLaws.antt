@@ -1,18 +1,19 @@
 -- The readers of a line, one byte further: what the definitions say of the bytes from place i on, by the byte that stands there. Assumes nothing.
 use mathlib.Core.Path.{_≡_, refl, sym, _∙_}
-use mathlib.Core.Bool.{true, false}
+use mathlib.Core.Bool.{Bool, true, false, not}
 use mathlib.Core.List.{List, [], _∷_}
 use Prim.Native.Nat.{ℕ, _+_, _-_, _*_, _<_, _≤_}
 use native.Mathlib.Numerals.{add-one}
 use native.Mathlib.Omega.{arith}
-use borrow.Author.Tests.{le-leb, lt-leb, eq-eqb, ne-eqb}
+use borrow.Author.Tests.{le-leb, lt-leb, eq-eqb, ne-eqb, not-true, not-false}
 use lib.ListN.{length, getD, take, drop, drop-of-length-le}
 use lib.Seq.{drop-cons}
+use Rattle.terms.specs.Choose.{if_then_else_}
 use Rattle.scenario.specs.declared.numbers.Read.{Read}
 use Rattle.scenario.specs.declared.numbers.Read.the-variants.{Found, Bad as Unread}
 use Rattle.scenario.specs.declared.Line.{Line}
 use Rattle.scenario.specs.declared.Line.the-variants.{Bad}
-use Rattle.scenario.specs.Line.{ZERO, RETURN, isBlank, isDigit, skipped, none, found, digits, numberIn, after, withoutReturn}
+use Rattle.scenario.specs.Line.{ZERO, RETURN, isBlank, isDigit, skipped, none, found, digits, numberIn, ends, after, withoutReturn}
 use Rattle.scenario.specs.Number.{meant, valueOf}
 
 module _ (l : List ℕ) (i : ℕ) where
@@ -78,6 +79,15 @@ module _ {at : ℕ} (r : Reading at) (m : ℕ) (go : ℕ → List ℕ → Line) 
 
   pub number-bad : read ≡ Unread → Bad ≡ r .line
   number-bad f = sym (e ∙ rw (← n, f))
+
+-- the end is to come
+module _ {at : ℕ} (r : Reading at) (one other : Line) (e : r .line ≡ (if ends (drop at (r .bytes)) then one else other))
+    {b : Bool} (n : b ≡ ends (drop at (r .bytes))) where
+  pub end-found : not b ≡ false → one ≡ r .line
+  end-found f = sym (e ∙ rw (← n, not-false b f))
+
+  pub end-missing : not b ≡ true → other ≡ r .line
+  end-missing f = sym (e ∙ rw (← n, not-true b f))
 
 -- ---- the carriage return
 

@@ -1,9 +1,7 @@
 -- `scenario::lines::read_event` meets its contract: each number that is found takes the definition one number further. Assumes nothing.
-use mathlib.Core.Path.{sym, _∙_}
 use native.Mathlib.Omega.{arith}
-use borrow.Author.Tests.{not-true, not-false}
 use Rattle.scenario.specs.Line.{eventIn}
-use Rattle.scenario.proofs.ByteLaws.{bounded, Reading, unread, number-found, number-bad}
+use Rattle.scenario.proofs.ByteLaws.{bounded, Reading, unread, number-found, number-bad, end-found, end-missing}
 use borrow.Author.Needs.{needs}
 use Rattle.scenario.proofs.lines.read_event.Statement.{statement}
 use Rattle.scenario.proofs.lines.read_event.Tie as tie
@@ -76,11 +74,11 @@ returns-5 c =
 
 returns-6 : tie.Need-returns-6
 unfolding eventIn
-returns-6 c = sym (after-d (c .before .before .before) .is ∙ rw (sym (c .before .ends .ensures) ∙ not-true _ (c .if1 .taken)))
+returns-6 c = let r = after-d (c .before .before .before) in end-missing r _ _ (r .is) (c .before .ends .ensures) (c .if1 .taken)
 
 returns-7 : tie.Need-returns-7
 unfolding eventIn
-returns-7 c = sym (after-d (c .before .before .before) .is ∙ rw (sym (c .before .ends .ensures) ∙ not-false _ (c .if1 .left)))
+returns-7 c = let r = after-d (c .before .before .before) in end-found r _ _ (r .is) (c .before .ends .ensures) (c .if1 .left)
 
 -- ---- an operand is a byte
 
