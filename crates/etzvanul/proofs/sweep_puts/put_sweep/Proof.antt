@@ -71,12 +71,6 @@ put-change-requires c κs =
     let lt = c .before .before .loop-test .taken in
     ready-next (e .loop .inv .1) (object-next (a .l .now) (a .p) (a .s) (e .loop .i) lt) (c .object-gone .ensures)
 
-add-i : tie.Need-add-i Inv-loop μ-loop Inv-loop2 μ-loop2 Inv-loop3 μ-loop3
-add-i c = omega arith
-
-loop-less : tie.Need-loop-less Inv-loop μ-loop Inv-loop2 μ-loop2 Inv-loop3 μ-loop3
-loop-less c = omega arith
-
 loop-again : tie.Need-loop-again Inv-loop μ-loop Inv-loop2 μ-loop2 Inv-loop3 μ-loop3
 loop-again c =
     let e = c .before .before .before .before .before .before in
@@ -110,12 +104,6 @@ put-change-requires-2 c κs =
     let lt = c .before .before .loop2-test .taken in
     ready-next (e .loop2 .inv .1) (directory-next (a .l .now) (a .p) (a .s) (e .loop2 .k) lt) (c .directory-gone .ensures)
 
-add-k : tie.Need-add-k Inv-loop μ-loop Inv-loop2 μ-loop2 Inv-loop3 μ-loop3
-add-k c = omega arith
-
-loop2-less : tie.Need-loop2-less Inv-loop μ-loop Inv-loop2 μ-loop2 Inv-loop3 μ-loop3
-loop2-less c = omega arith
-
 loop2-again : tie.Need-loop2-again Inv-loop μ-loop Inv-loop2 μ-loop2 Inv-loop3 μ-loop3
 loop2-again c =
     let e = c .before .before .before .before .before .before in
@@ -148,12 +136,6 @@ put-change-requires-3 c κs =
     let a = e .before .before .before .before .before .before .before .before .before .before .before .args in
     let lt = c .before .before .loop3-test .taken in
     ready-next (e .loop3 .inv .1) (entry-next (a .l .now) (a .p) (a .s) (e .loop3 .o) lt) (c .entry-unused .ensures)
-
-add-o : tie.Need-add-o Inv-loop μ-loop Inv-loop2 μ-loop2 Inv-loop3 μ-loop3
-add-o c = omega arith
-
-loop3-less : tie.Need-loop3-less Inv-loop μ-loop Inv-loop2 μ-loop2 Inv-loop3 μ-loop3
-loop3-less c = omega arith
 
 loop3-again : tie.Need-loop3-again Inv-loop μ-loop Inv-loop2 μ-loop2 Inv-loop3 μ-loop3
 loop3-again c =
@@ -228,20 +210,17 @@ put-sweep-spec =
     loop-holds
     object-gone-requires
     put-change-requires
-    add-i
-    loop-less
+    (λ c. omega arith) (λ c. omega arith)
     loop-again
     loop2-holds
     directory-gone-requires
     put-change-requires-2
-    add-k
-    loop2-less
+    (λ c. omega arith) (λ c. omega arith)
     loop2-again
     loop3-holds
     entry-unused-requires
     put-change-requires-3
-    add-o
-    loop3-less
+    (λ c. omega arith) (λ c. omega arith)
     loop3-again
     sub-rest
     copy-part-requires
