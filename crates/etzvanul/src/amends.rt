@@ -21,7 +21,6 @@ ghost use Rattle.terms.specs.Limits.{NODES};
 ghost use Rattle.terms.specs.Numbers.{ACCEPTED};
 ghost use Rattle.image.specs.Reader.{read};
 ghost use Rattle.image.specs.Stored.{FULL};
-ghost use Rattle.step.specs.declared.Deed.the-variants.{Collected};
 ghost use Rattle.step.specs.declared.Kind.the-variants.{Collect};
 ghost use Rattle.step.specs.Event.{kindOf};
 ghost use Rattle.etzvanul.specs.Amended.{Back, Asked};
@@ -31,7 +30,6 @@ ghost use Rattle.etzvanul.specs.Orderly.{Orderly};
 ghost use Rattle.plan.specs.Plan.{changesOf};
 ghost use Rattle.plan.specs.Sweep.{sweepChanges};
 ghost use Rattle.etzvanul.specs.SweepOnward.{Resumes};
-ghost use Rattle.etzvanul.specs.Spliced.{newImage, sweptImage};
 
 // The kind of COLLECT, which has no plan.
 const COLLECT: u16 = 9;
