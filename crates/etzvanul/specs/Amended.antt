@@ -87,13 +87,13 @@ module _ (old : List ℕ) (e : Event) (out : List ℕ) (accepted : read old .ans
 
 -- answer, deed and new image of a plan, and of COLLECT at node p
 module _ (l : List ℕ) (t : Table) (told : Told l t) where
-  plan-comes : (e : Event) → fitsEvent e ≡ true → kindOf (e .kind) ≢ Collect
+  pub plan-comes : (e : Event) → fitsEvent e ≡ true → kindOf (e .kind) ≢ Collect
       → Comes t (by t (ruleOf t e)) (planOf l e .answer) (planOf l e .deed) (newImage (t .count + 1) (planOf l e) l)
   plan-comes e fits other =
       let right = planned l t told e fits other in
       record { answered = right .answer; did = λ ok. right .deed; made = λ ok. planned-image told right ok }
 
-  sweep-comes : (p : ℕ) → p < NODES
+  pub sweep-comes : (p : ℕ) → p < NODES
       → Comes t (by t (collect t p)) (sweepOf l p .answer) (Collected (sweepOf l p .reclaimed)) (sweptImage (t .count + 1) l p (sweepOf l p))
   sweep-comes p lp = record {
     answered = sweep-answer l t told p lp;
