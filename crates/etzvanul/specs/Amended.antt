@@ -23,7 +23,7 @@ use Rattle.table.specs.declared.Table.{Table}
 use Rattle.table.specs.Shape.{fitsTable}
 use Rattle.image.specs.Reader.{read}
 use Rattle.etzvanul.specs.CallLaws.{refusal}
-use Rattle.etzvanul.specs.Comes.{Comes, callOf, comes, unfit, ended}
+use Rattle.etzvanul.specs.Comes.{Comes, callOf, planCall, sweepCall, comes, unfit, ended}
 use Rattle.etzvanul.specs.HostCall.{called, numberIn, bufferIn, hostNumber, hostBytes}
 use Rattle.plan.specs.declared.Plan.{Plan}
 use Rattle.plan.specs.declared.Sweep.{Sweep}
@@ -47,7 +47,9 @@ module _ (old : List ℕ) (e : Event) (out : List ℕ) (accepted : read old .ans
   t = read old .table
 
   -- a refusal of every such call
-  refused-back : (k : ℕ) → ((event : List ℕ) → isRecord event ≡ true → eventIn event ≡ e → (k ≡ numberIn (called old event out)) × (out ≡ bufferIn (called old event out) out))
+  refused-back : (k : ℕ)
+      → ((event : List ℕ) → isRecord event ≡ true → eventIn event ≡ e
+      → (k ≡ numberIn (called old event out)) × (out ≡ bufferIn (called old event out) out))
       → Back old e out k out
   unfolding hostNumber hostBytes
   refused-back k is = record {
@@ -85,13 +87,13 @@ module _ (old : List ℕ) (e : Event) (out : List ℕ) (accepted : read old .ans
 
 -- answer, deed and new image of a plan, and of COLLECT at node p
 module _ (l : List ℕ) (t : Table) (told : Told l t) where
-  plan-comes : (e : Event) → fitsEvent e ≡ true → kindOf (e .kind) ≢ Collect
+  pub plan-comes : (e : Event) → fitsEvent e ≡ true → kindOf (e .kind) ≢ Collect
       → Comes t (by t (ruleOf t e)) (planOf l e .answer) (planOf l e .deed) (newImage (t .count + 1) (planOf l e) l)
   plan-comes e fits other =
       let right = planned l t told e fits other in
       record { answered = right .answer; did = λ ok. right .deed; made = λ ok. planned-image told right ok }
 
-  sweep-comes : (p : ℕ) → p < NODES
+  pub sweep-comes : (p : ℕ) → p < NODES
       → Comes t (by t (collect t p)) (sweepOf l p .answer) (Collected (sweepOf l p .reclaimed)) (sweptImage (t .count + 1) l p (sweepOf l p))
   sweep-comes p lp = record {
     answered = sweep-answer l t told p lp;
@@ -120,8 +122,8 @@ module _ (l : List ℕ) (told : Told l (read l .table)) (e : Event) (count : ℕ
         (planned-orderly told (planned l (read l .table) told e (asked .fits) other))
 
     pub change-back : (number : ℕ) (buffer : List ℕ)
-        → number ≡ numberIn (callOf (plan .answer) (plan .deed) (newImage (count + 1) plan l) out)
-        → buffer ≡ bufferIn (callOf (plan .answer) (plan .deed) (newImage (count + 1) plan l) out) out → Back l e out number buffer
+        → number ≡ numberIn (planCall (count + 1) plan l out) → buffer ≡ bufferIn (planCall (count + 1) plan l out) out
+        → Back l e out number buffer
     change-back number buffer n b =
         rw (n, b, is, asked .counted)
         (asked-back (planOf l e .answer) (planOf l e .deed) _ (plan-comes l (read l .table) told e (asked .fits) other))
@@ -140,8 +142,8 @@ module _ (l : List ℕ) (told : Told l (read l .table)) (e : Event) (count : ℕ
           (sweep-orderly told (e .a) collect-node)
 
       pub collect-back : (number : ℕ) (buffer : List ℕ)
-          → number ≡ numberIn (callOf (s .answer) (Collected (s .reclaimed)) (sweptImage (count + 1) l (e .a) s) out)
-          → buffer ≡ bufferIn (callOf (s .answer) (Collected (s .reclaimed)) (sweptImage (count + 1) l (e .a) s) out) out → Back l e out number buffer
+          → number ≡ numberIn (sweepCall (count + 1) (e .a) s l out) → buffer ≡ bufferIn (sweepCall (count + 1) (e .a) s l out) out
+          → Back l e out number buffer
       unfolding ruleFor
       collect-back number buffer n b =
           rw (n, b, is, asked .counted)

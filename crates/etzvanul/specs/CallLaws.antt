@@ -20,7 +20,8 @@ use Rattle.image.specs.Writer.{image, putAnswer, putLength, putBytes}
 use Rattle.table.specs.declared.Table.{Table}
 use Rattle.table.specs.Depth.{depthReport}
 use Rattle.table.specs.Table.{freshTable}
-use Rattle.etzvanul.specs.HostCall.{Called, refusedCall, done, callWith, callOn, callAfter, called, numberOfCall, numberIn, bufferIn, startCall, startNumber, startBytes, depthCall}
+use Rattle.etzvanul.specs.HostCall.{Called, refusedCall, done, callWith, callOn, callAfter, called, numberOfCall, numberIn, bufferIn}
+use Rattle.etzvanul.specs.HostCall.{startCall, startNumber, startBytes, depthCall}
 
 -- ---- what comes back
 
@@ -131,7 +132,8 @@ depth-not old node object bad =
     rw (ne-eqb (read old .answer) ACCEPTED bad) (plain (read old .answer))
 
 -- the report of one that is accepted
-pub depth-told : (old : List ℕ) (node object : ℕ) → read old .answer ≡ ACCEPTED → 256 * depthReport (read old .table) node object ≡ depthCall old node object
+pub depth-told : (old : List ℕ) (node object : ℕ) → read old .answer ≡ ACCEPTED
+    → 256 * depthReport (read old .table) node object ≡ depthCall old node object
 unfolding depthCall
 depth-told old node object good =
     let plain : (d : ℕ) → 256 * d ≡ 0 + 256 * d + 16777216 * 0 = λ d. omega arith in

@@ -14,6 +14,7 @@ use Rattle.terms.specs.Choose.{if_then_else_, _when_, answered}
 use Rattle.terms.specs.Limits.{EVENTS}
 use Rattle.terms.specs.Numbers.{ACCEPTED, EVENT, ENDED, ROOM}
 use Rattle.step.specs.declared.Deed.{Deed}
+use Rattle.step.specs.declared.Deed.the-variants.{Collected}
 use Rattle.step.specs.declared.Event.{Event}
 use Rattle.step.specs.declared.Outcome.{Outcome}
 use Rattle.step.specs.Event.{fitsEvent}
@@ -25,8 +26,11 @@ use Rattle.table.specs.Shape.{fitsTable}
 use Rattle.table.specs.Table.{withCount}
 use Rattle.image.specs.Reader.{read}
 use Rattle.image.specs.Writer.{image}
+use Rattle.plan.specs.declared.Plan.{Plan}
+use Rattle.plan.specs.declared.Sweep.{Sweep}
 use Rattle.etzvanul.specs.CallLaws.{refusal, success, event-refused, no-room, all-done}
 use Rattle.etzvanul.specs.HostCall.{Called, refusedCall, done, called, numberOfCall, numberIn, bufferIn}
+use Rattle.etzvanul.specs.Spliced.{newImage, sweptImage}
 
 -- answer, deed and new image are those of what the event's rule comes to on the table, its count not yet taken
 pub record Comes (t : Table) (o : Outcome) (answer : ℕ) (deed : Deed) (new : List ℕ) : Type 0 where
@@ -38,6 +42,13 @@ pub record Comes (t : Table) (o : Outcome) (answer : ℕ) (deed : Deed) (new : L
 unfoldable pub callOf : ℕ → Deed → List ℕ → List ℕ → Called
 callOf answer deed new out =
     answered refusedCall ((answer when not (eqb answer ACCEPTED)) ∷ (ROOM when ltb (length out) (length new)) ∷ []) (done (valueOf deed) new)
+
+-- of a plan, and of a COLLECT at node p; n is the event count after the event
+abbrev pub planCall : ℕ → Plan → List ℕ → List ℕ → Called
+planCall n plan l out = callOf (plan .answer) (plan .deed) (newImage n plan l) out
+
+abbrev pub sweepCall : ℕ → ℕ → Sweep → List ℕ → List ℕ → Called
+sweepCall n p s l out = callOf (s .answer) (Collected (s .reclaimed)) (sweptImage n l p s) out
 
 -- what comes back of it, case by case
 module _ (answer : ℕ) (deed : Deed) (new out : List ℕ) where
@@ -58,7 +69,8 @@ module _ (answer : ℕ) (deed : Deed) (new out : List ℕ) where
     call-done room =
         success (callOf answer deed new out) out (valueOf deed) new (rw (eq-eqb answer ACCEPTED ok, le-ltb (length out) (length new) room))
 
-module _ (old event out : List ℕ) (accepted : read old .answer ≡ ACCEPTED) (whole : isRecord event ≡ true) (shape : fitsTable (read old .table) ≡ true) where
+module _ (old event out : List ℕ) (accepted : read old .answer ≡ ACCEPTED) (whole : isRecord event ≡ true)
+    (shape : fitsTable (read old .table) ≡ true) where
   abbrev t : Table
   t = read old .table
 

@@ -21,17 +21,15 @@ ghost use Rattle.terms.specs.Limits.{NODES};
 ghost use Rattle.terms.specs.Numbers.{ACCEPTED};
 ghost use Rattle.image.specs.Reader.{read};
 ghost use Rattle.image.specs.Stored.{FULL};
-ghost use Rattle.step.specs.declared.Deed.the-variants.{Collected};
 ghost use Rattle.step.specs.declared.Kind.the-variants.{Collect};
 ghost use Rattle.step.specs.Event.{kindOf};
 ghost use Rattle.etzvanul.specs.Amended.{Back, Asked};
-ghost use Rattle.etzvanul.specs.Comes.{callOf};
+ghost use Rattle.etzvanul.specs.Comes.{planCall, sweepCall};
 ghost use Rattle.etzvanul.specs.HostCall.{numberIn, bufferIn};
 ghost use Rattle.etzvanul.specs.Orderly.{Orderly};
 ghost use Rattle.plan.specs.Plan.{changesOf};
 ghost use Rattle.plan.specs.Sweep.{sweepChanges};
 ghost use Rattle.etzvanul.specs.SweepOnward.{Resumes};
-ghost use Rattle.etzvanul.specs.Spliced.{newImage, sweptImage};
 
 // The kind of COLLECT, which has no plan.
 const COLLECT: u16 = 9;
@@ -40,8 +38,8 @@ const COLLECT: u16 = 9;
 fn planned(image: &[u8], plan: Plan, n: u32, out: &mut [u8]) -> u64
     requires { ⌜ length (now image) + 100 ≤ FULL ⌝ }
     requires { ⌜ (plan .answer ≡ ACCEPTED → Orderly 0 (changesOf n plan) (length (now image))) ⌝ }
-    ensures number { λ r. ⌜ r ≡ numberIn (callOf (plan .answer) (plan .deed) (newImage n plan (now (image .entry))) (now (out .entry))) ⌝ }
-    ensures bytes { λ r. ⌜ now (out .exit) ≡ bufferIn (callOf (plan .answer) (plan .deed) (newImage n plan (now (image .entry))) (now (out .entry))) (now (out .entry)) ⌝ }
+    ensures number { λ r. ⌜ r ≡ numberIn (planCall n plan (now (image .entry)) (now (out .entry))) ⌝ }
+    ensures bytes { λ r. ⌜ now (out .exit) ≡ bufferIn (planCall n plan (now (image .entry)) (now (out .entry))) (now (out .entry)) ⌝ }
 {
     if plan.answer != Outcome::ACCEPTED {
         return plan.answer as u64;
@@ -61,8 +59,8 @@ fn swept(image: &[u8], p: u8, s: Sweep, n: u32, out: &mut [u8]) -> u64
     requires small { ⌜ length (now image) + 100 ≤ FULL ⌝ }
     requires orderly { ⌜ (s .answer ≡ ACCEPTED → Orderly 0 (sweepChanges n (now image) p s) (length (now image))) ⌝ }
     requires resumes { ⌜ Resumes (now image) p s ⌝ }
-    ensures number { λ r. ⌜ r ≡ numberIn (callOf (s .answer) (Collected (s .reclaimed)) (sweptImage n (now (image .entry)) p s) (now (out .entry))) ⌝ }
-    ensures bytes { λ r. ⌜ now (out .exit) ≡ bufferIn (callOf (s .answer) (Collected (s .reclaimed)) (sweptImage n (now (image .entry)) p s) (now (out .entry))) (now (out .entry)) ⌝ }
+    ensures number { λ r. ⌜ r ≡ numberIn (sweepCall n p s (now (image .entry)) (now (out .entry))) ⌝ }
+    ensures bytes { λ r. ⌜ now (out .exit) ≡ bufferIn (sweepCall n p s (now (image .entry)) (now (out .entry))) (now (out .entry)) ⌝ }
 {
     if s.answer != Outcome::ACCEPTED {
         return s.answer as u64;

@@ -7,7 +7,7 @@ use Prim.Native.Nat.{ℕ, _+_, _*_, _<_}
 use native.Mathlib.Omega.{arith}
 use borrow.Author.Tests.{eq-eqb, eqb-true, lt-ltb}
 use Rattle.terms.specs.Choose.{if_then_else_, _and_}
-use Rattle.terms.specs.Counted.{holds, howMany, list}
+use Rattle.terms.specs.Counted.{holds, howMany}
 use Rattle.terms.specs.Limits.{NODES, OBJECTS, OWNED, owner}
 use Rattle.terms.specs.ListLaws.{getD-list, length-list, list-is}
 use Rattle.terms.specs.Numbers.{ACCEPTED, TORN}

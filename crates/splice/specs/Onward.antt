@@ -60,8 +60,8 @@ module _ (n m : ℕ) (lt : n < m) where
         let is = none .1 in
         let long : HEAD + lengthOf k ≤ length l = rw is at (ltb-false (length l) (HEAD + lengthOf (statedKind l)) (none .0 .1 .1 .1 .0)) in
         let known : isUnknown k ≡ false = rw is at (none .0 .1 .0) in
-        let stated : statedLength l ≡ lengthOf k =
-        rw is at (eqb-true (statedLength l) (lengthOf (statedKind l)) (not-false (eqb (statedLength l) (lengthOf (statedKind l))) (none .0 .1 .1 .0))) in
+        let same = not-false (eqb (statedLength l) (lengthOf (statedKind l))) (none .0 .1 .1 .0) in
+        let stated : statedLength l ≡ lengthOf k = rw is at (eqb-true (statedLength l) (lengthOf (statedKind l)) same) in
         let lies = front-back l k are is (omega arith) known stated long in
         let fit = fit-unpacked (widthsOf k) (drop HEAD l) (bytes-drop HEAD l are) (omega (arith, length-drop HEAD l)) in
         let kind : frontKind l ≡ k = ap frontKind (sym lies) ∙ front-kind k (payload k l) (restAfter k l) known in

@@ -6,15 +6,10 @@ use Rattle.etzvanul.specs.HostCall.{checkNumber}
 use Rattle.etzvanul.proofs.etzvanul_check.Statement.{statement}
 use Rattle.etzvanul.proofs.etzvanul_check.Tie as tie
 
-check-requires : tie.Need-check-requires
-check-requires c κs = search needs
-
-cast-result : tie.Need-cast-result
-cast-result c = search needs
-
 returns : tie.Need-returns
 unfolding checkNumber
 returns c = c .check .ensures ∙ sym (answer-check (c .before .before .args .image .now))
 
 pub etzvanul-check-spec : {M : Type 1} → statement M
-etzvanul-check-spec = tie.close (tie.spec check-requires cast-result returns)
+etzvanul-check-spec =
+    tie.close (tie.spec (search needs) (search needs) returns)

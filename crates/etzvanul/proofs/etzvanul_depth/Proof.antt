@@ -9,26 +9,11 @@ use Rattle.etzvanul.proofs.Slices.{slice-told}
 use Rattle.etzvanul.proofs.etzvanul_depth.Statement.{statement}
 use Rattle.etzvanul.proofs.etzvanul_depth.Tie as tie
 
-check-requires : tie.Need-check-requires
-check-requires c κs = search needs
-
-cast-result : tie.Need-cast-result
-cast-result c = search needs
-
 returns : tie.Need-returns
 returns c =
     let a = c .before .before .before .args in
     let is = c .before .check .ensures ∙ sym (answer-check (a .image .now)) in
     is ∙ depth-not (a .image .now) (a .node) (a .object) (λ ok. c .if1 .taken (is ∙ ok))
-
-depth-in-requires : tie.Need-depth-in-requires
-depth-in-requires c κs = search needs
-
-cast-result-2 : tie.Need-cast-result-2
-cast-result-2 c = search needs
-
-mul-result : tie.Need-mul-result
-mul-result c = search needs
 
 returns-2 : tie.Need-returns-2
 returns-2 c =
@@ -40,4 +25,4 @@ returns-2 c =
 
 pub etzvanul-depth-spec : {M : Type 1} → statement M
 etzvanul-depth-spec =
-    tie.close (tie.spec check-requires cast-result returns depth-in-requires cast-result-2 mul-result returns-2)
+    tie.close (tie.spec (search needs) (search needs) returns (search needs) (search needs) (search needs) returns-2)

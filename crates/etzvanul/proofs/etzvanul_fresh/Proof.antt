@@ -7,31 +7,15 @@ use Rattle.etzvanul.specs.CallLaws.{start-not, start-done}
 use Rattle.etzvanul.proofs.etzvanul_fresh.Statement.{statement}
 use Rattle.etzvanul.proofs.etzvanul_fresh.Tie as tie
 
-fresh-requires : tie.Need-fresh-requires
-fresh-requires c κs = search needs
-
-put-image-requires : tie.Need-put-image-requires
-put-image-requires c κs = search needs
-
-cast-result : tie.Need-cast-result
-cast-result c = search needs
-
-same-length : tie.Need-same-length
-same-length c = search needs
-
 returns : tie.Need-returns
 returns c =
     let p = c .before .before .before .before .before in
     let out = p .before .before .before .before .args .out .now in
     let fresh = p .before .before .fresh .ensures in
     let put = p .put-image .ensures in
-    start-not out _ _ (put .0 ∙ ap (λ (t : Table). putAnswer t out) fresh) (put .1 .1 .0 ∙ ap (λ (t : Table). putBytes t out) fresh) (c .before .if1 .taken)
-
-number-of-requires : tie.Need-number-of-requires
-number-of-requires c κs = search needs
-
-same-length-2 : tie.Need-same-length-2
-same-length-2 c = search needs
+    let answer = put .0 ∙ ap (λ (t : Table). putAnswer t out) fresh in
+    let bytes = put .1 .1 .0 ∙ ap (λ (t : Table). putBytes t out) fresh in
+    start-not out _ _ answer bytes (c .before .if1 .taken)
 
 returns-2 : tie.Need-returns-2
 returns-2 c =
@@ -39,20 +23,12 @@ returns-2 c =
     let out = p .before .before .before .before .args .out .now in
     let fresh = p .before .before .fresh .ensures in
     let put = p .put-image .ensures in
-    let (number, bytes) = start-done out _ _ _ (put .0 ∙ ap (λ (t : Table). putAnswer t out) fresh) (put .1 .0 ∙ ap (λ (t : Table). putLength t out) fresh)
-    (put .1 .1 .0 ∙ ap (λ (t : Table). putBytes t out) fresh)
-    (c .before .if1 .left) in
-    (c .number-of .ensures ∙ number, bytes)
+    let answer = put .0 ∙ ap (λ (t : Table). putAnswer t out) fresh in
+    let size = put .1 .0 ∙ ap (λ (t : Table). putLength t out) fresh in
+    let bytes = put .1 .1 .0 ∙ ap (λ (t : Table). putBytes t out) fresh in
+    let done = start-done out _ _ _ answer size bytes (c .before .if1 .left) in
+    (c .number-of .ensures ∙ done .0, done .1)
 
 pub etzvanul-fresh-spec : {M : Type 1} → statement M
 etzvanul-fresh-spec =
-    tie.close
-    (tie.spec
-    fresh-requires
-    put-image-requires
-    cast-result
-    same-length
-    returns
-    number-of-requires
-    same-length-2
-    returns-2)
+    tie.close (tie.spec (search needs) (search needs) (search needs) (search needs) returns (search needs) (search needs) returns-2)

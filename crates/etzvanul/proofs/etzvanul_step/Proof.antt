@@ -8,12 +8,6 @@ use Rattle.etzvanul.specs.HostCall.{refusedCall, called, hostNumber, hos
 use Rattle.etzvanul.proofs.etzvanul_step.Statement.{statement}
 use Rattle.etzvanul.proofs.etzvanul_step.Tie as tie
 
-check-requires : tie.Need-check-requires
-check-requires c κs = search needs
-
-cast-result : tie.Need-cast-result
-cast-result c = search needs
-
 returns : tie.Need-returns
 unfolding hostNumber hostBytes
 returns c =
@@ -21,12 +15,6 @@ returns c =
     let is = c .before .check .ensures ∙ sym (answer-check (a .image .now)) in
     refusal (called (a .image .now) (a .event .now) (a .out .now)) (a .out .now) _
     (image-refused (a .image .now) (a .event .now) (a .out .now) (λ ok. c .if1 .taken (is ∙ ok)) ∙ ap refusedCall (sym is))
-
-is-record-requires : tie.Need-is-record-requires
-is-record-requires c κs = search needs
-
-cast-result-2 : tie.Need-cast-result-2
-cast-result-2 c = search needs
 
 returns-2 : tie.Need-returns-2
 unfolding hostNumber hostBytes
@@ -37,17 +25,11 @@ returns-2 c =
     refusal (called (a .image .now) (a .event .now) (a .out .now)) (a .out .now) _
     (not-a-record (a .image .now) (a .event .now) (a .out .now) accepted (sym (c .before .is-record .ensures) ∙ not-true _ (c .if2 .taken)))
 
-of-record-requires : tie.Need-of-record-requires
-of-record-requires c κs = search needs
-
 amend-requires : tie.Need-amend-requires
 amend-requires c κs =
     let l = c .before .before .before .before .before in
     let a = l .before .before .before .before .args in
     answer-check (a .image .now) ∙ sym (l .check .ensures) ∙ c .before .before .before .before .if1 .left
-
-same-length : tie.Need-same-length
-same-length c = search needs
 
 returns-3 : tie.Need-returns-3
 returns-3 c =
@@ -61,13 +43,11 @@ pub etzvanul-step-spec : {M : Type 1} → statement M
 etzvanul-step-spec =
     tie.close
     (tie.spec
-    check-requires
-    cast-result
+    (search needs) (search needs)
     returns
-    is-record-requires
-    cast-result-2
+    (search needs) (search needs)
     returns-2
-    of-record-requires
+    (search needs)
     amend-requires
-    same-length
+    (search needs)
     returns-3)

@@ -23,8 +23,9 @@ swept-requires c κs =
     let size = accepted-size l are (asked .accepted) in
     let told = slice-told l each (asked .accepted) in
     let node = collect-node l told (a .e) (a .count) asked (a .out .now) (s .pre .1) in
-    let orderly = collect-orderly l told (a .e) (a .count) asked (a .out .now) (s .pre .1) (c .before .sweep-of .result) (c .before .sweep-of .ensures) in
-    let onward = resumes l are (read l .table) told (a .e .a) node (c .before .sweep-of .result) (c .before .sweep-of .ensures) in
+    let sweep = c .before .sweep-of in
+    let orderly = collect-orderly l told (a .e) (a .count) asked (a .out .now) (s .pre .1) (sweep .result) (sweep .ensures) in
+    let onward = resumes l are (read l .table) told (a .e .a) node (sweep .result) (sweep .ensures) in
     (node, (omega (arith, size .1), (orderly, onward)))
 
 returns : tie.Need-returns

@@ -12,9 +12,6 @@ use Rattle.etzvanul.specs.Spliced.{newImage}
 use Rattle.etzvanul.proofs.amends.planned.Statement.{statement}
 use Rattle.etzvanul.proofs.amends.planned.Tie as tie
 
-cast-result : tie.Need-cast-result
-cast-result c = search needs
-
 returns : tie.Need-returns
 returns c =
     let a = c .before .before .before .before .before .args in
@@ -24,9 +21,6 @@ length-after-requires : tie.Need-length-after-requires
 length-after-requires c κs =
     let s = c .before .before .before .before in
     (omega (arith, s .pre .0), s .pre .1 (c .if1 .left) .2)
-
-cast-result-2 : tie.Need-cast-result-2
-cast-result-2 c = search needs
 
 returns-2 : tie.Need-returns-2
 returns-2 c =
@@ -45,17 +39,11 @@ put-plan-requires c κs =
     let size = c .before .before .length-after .ensures ∙ new-length (a .n) (a .plan) (a .image .now) orderly in
     (orderly, omega (arith, size, c .before .if2 .left))
 
-value-requires : tie.Need-value-requires
-value-requires c κs = search needs
-
 number-of-requires : tie.Need-number-of-requires
 number-of-requires c κs =
     let l = c .before .before .before .before .before .before in
     let s = l .before .before .before .before .before in
     omega (arith, l .length-after .ensures, after-most (length (s .args .image .now)) (others (s .args .plan)), s .pre .0)
-
-same-length : tie.Need-same-length
-same-length c = search needs
 
 returns-3 : tie.Need-returns-3
 returns-3 c =
@@ -77,13 +65,13 @@ pub planned-spec : {M : Type 1} → statement M
 planned-spec =
     tie.close
     (tie.spec
-    cast-result
+    (search needs)
     returns
     length-after-requires
-    cast-result-2
+    (search needs)
     returns-2
     put-plan-requires
-    value-requires
+    (search needs)
     number-of-requires
-    same-length
+    (search needs)
     returns-3)

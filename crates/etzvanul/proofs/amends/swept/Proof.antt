@@ -12,9 +12,6 @@ use Rattle.etzvanul.specs.Spliced.{sweptImage}
 use Rattle.etzvanul.proofs.amends.swept.Statement.{statement}
 use Rattle.etzvanul.proofs.amends.swept.Tie as tie
 
-cast-result : tie.Need-cast-result
-cast-result c = search needs
-
 returns : tie.Need-returns
 returns c =
     let a = c .before .before .before .before .before .args in
@@ -25,9 +22,6 @@ unfolding sweepChanges
 swept-length-requires c κs =
     let s = c .before .before .before .before in
     (s .pre .0, ((omega (arith, s .pre .1 .0), s .pre .1 .1 .0 (c .if1 .left)), s .pre .1 .1 .1))
-
-cast-result-2 : tie.Need-cast-result-2
-cast-result-2 c = search needs
 
 returns-2 : tie.Need-returns-2
 returns-2 c =
@@ -52,9 +46,6 @@ number-of-requires c κs =
     let most = swept-most (a .n) (a .image .now) (a .p) (a .s) (s .pre .1 .1 .0 (l .before .if1 .left)) in
     omega (arith, l .swept-length .ensures (a .n), most, s .pre .1 .0)
 
-same-length : tie.Need-same-length
-same-length c = search needs
-
 returns-3 : tie.Need-returns-3
 returns-3 c =
     let p = c .before .before .before in
@@ -71,12 +62,12 @@ pub swept-spec : {M : Type 1} → statement M
 swept-spec =
     tie.close
     (tie.spec
-    cast-result
+    (search needs)
     returns
     swept-length-requires
-    cast-result-2
+    (search needs)
     returns-2
     put-sweep-requires
     number-of-requires
-    same-length
+    (search needs)
     returns-3)

@@ -28,27 +28,6 @@ abbrev μ-loop : tie.MeasureT-loop
 loop-holds : tie.Need-loop-holds Inv-loop μ-loop
 loop-holds c = (omega arith, filled-none)
 
-entry-from-requires : tie.Need-entry-from-requires Inv-loop μ-loop
-entry-from-requires c κs = search needs
-
-cast-k : tie.Need-cast-k Inv-loop μ-loop
-cast-k c = search needs
-
-entry-requires : tie.Need-entry-requires Inv-loop μ-loop
-entry-requires c κs = search needs
-
-mul-at : tie.Need-mul-at Inv-loop μ-loop
-mul-at c = search needs
-
-array-set-from-at : tie.Need-array-set-from-at Inv-loop μ-loop
-array-set-from-at c = search needs
-
-add-p : tie.Need-add-p Inv-loop μ-loop
-add-p c = omega arith
-
-loop-less : tie.Need-loop-less Inv-loop μ-loop
-loop-less c = omega arith
-
 loop-again : tie.Need-loop-again Inv-loop μ-loop
 loop-again c =
     let l = c .before .before .before in
@@ -64,12 +43,6 @@ cell-in-spec =
     Inv-loop
     μ-loop
     loop-holds
-    entry-from-requires
-    cast-k
-    entry-requires
-    mul-at
-    array-set-from-at
-    add-p
-    loop-less
+    (search needs) (search needs) (search needs) (search needs) (search needs) (λ c. omega arith) (λ c. omega arith)
     loop-again
     returns)

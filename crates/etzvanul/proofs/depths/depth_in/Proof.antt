@@ -20,7 +20,8 @@ use Rattle.etzvanul.proofs.depths.depth_in.Statement.{statement}
 use Rattle.etzvanul.proofs.depths.depth_in.Tie as tie
 
 -- the entries that the image tells are those of the table's cell
-cell-told : (l : List ℕ) (t : Table) → Told l t → (o : ℕ) → o < OBJECTS → (c : Cell) → c .at ≡ list NODES (λ p. record { held = entryOf l p o }) → cellAt t o ≡ c
+cell-told : (l : List ℕ) (t : Table) → Told l t → (o : ℕ) → o < OBJECTS → (c : Cell)
+    → c .at ≡ list NODES (λ p. record { held = entryOf l p o }) → cellAt t o ≡ c
 cell-told l t told o lt c is =
     ap (λ (x : List Slot). record { at = x })
     (list-is NODES (λ p. record { held = entryOf l p o }) (record { held = Absent }) (cellAt t o .at) (told .formed .entries o lt)
@@ -35,15 +36,6 @@ returns-2 : tie.Need-returns-2
 unfolding depthReport
 returns-2 c t told = rw (lt-ltb _ NODES (c .before .if1 .left), le-ltb _ OBJECTS (c .if2 .taken))
 
-cell-in-requires : tie.Need-cell-in-requires
-cell-in-requires c κs = search needs
-
-depth-requires : tie.Need-depth-requires
-depth-requires c κs = search needs
-
-number-requires : tie.Need-number-requires
-number-requires c κs = search needs
-
 returns-3 : tie.Need-returns-3
 unfolding depthReport
 returns-3 c t told =
@@ -55,4 +47,5 @@ returns-3 c t told =
     (c .number .ensures ∙ ap depthNumber (c .before .depth .ensures t (a .o) same))
 
 pub depth-in-spec : {M : Type 1} → statement M
-depth-in-spec = tie.close (tie.spec returns returns-2 cell-in-requires depth-requires number-requires returns-3)
+depth-in-spec =
+    tie.close (tie.spec returns returns-2 (search needs) (search needs) (search needs) returns-3)

@@ -6,12 +6,6 @@ use Rattle.image.specs.StoredLaws.{stored-none}
 use Rattle.etzvanul.proofs.puts.put_change.Statement.{statement}
 use Rattle.etzvanul.proofs.puts.put_change.Tie as tie
 
-enum-told : tie.Need-enum-told
-enum-told c = search needs
-
-enum-known-change : tie.Need-enum-known-change
-enum-known-change c = search needs
-
 put-to-requires : tie.Need-put-to-requires
 put-to-requires c κs =
     let p = rw (c .before .before .change .given .1) at (c .before .before .before .before .before .before .pre) in
@@ -20,9 +14,6 @@ put-to-requires c κs =
 returns : tie.Need-returns
 returns c = rw (c .enum-told .given .1) (record { place = refl; stored = stored-none _ _ })
 
-same-length : tie.Need-same-length
-same-length c = search needs
-
 returns-2 : tie.Need-returns-2
 returns-2 c =
     let put = c .before .before in
@@ -30,4 +21,4 @@ returns-2 c =
 
 pub put-change-spec : {M : Type 1} → statement M
 put-change-spec =
-    tie.close (tie.spec enum-told enum-known-change put-to-requires returns same-length returns-2)
+    tie.close (tie.spec (search needs) (search needs) put-to-requires returns (search needs) returns-2)

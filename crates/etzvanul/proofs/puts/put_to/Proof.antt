@@ -29,12 +29,6 @@ add-next c =
     let whole = putTo-length (a .from) (a .at) (a .a) (a .b) (a .held) (a .l .now) (s .pre .0) (s .pre .1) in
     omega (arith, whole, s .pre .2)
 
-record-of-requires : tie.Need-record-of-requires
-record-of-requires c κs = search needs
-
-slice-aggregate-copy-part : tie.Need-slice-aggregate-copy-part
-slice-aggregate-copy-part c = search needs
-
 copy-part-requires-2 : tie.Need-copy-part-requires-2
 copy-part-requires-2 c κs =
     let made = c .before .before .before in
@@ -53,9 +47,6 @@ add-result c =
     let a = s .args in
     let whole = putTo-length (a .from) (a .at) (a .a) (a .b) (a .held) (a .l .now) (s .pre .0) (s .pre .1) in
     omega (arith, whole, s .pre .2, made .record-of .ensures .size)
-
-same-length : tie.Need-same-length
-same-length c = search needs
 
 returns : tie.Need-returns
 returns c =
@@ -80,9 +71,8 @@ put-to-spec =
     sub-n
     copy-part-requires
     add-next
-    record-of-requires
-    slice-aggregate-copy-part
+    (search needs) (search needs)
     copy-part-requires-2
     add-result
-    same-length
+    (search needs)
     returns)

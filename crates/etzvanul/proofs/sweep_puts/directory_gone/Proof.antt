@@ -23,7 +23,8 @@ returns-2 c =
     let s = i .before .before .before in
     let a = s .args in
     let goes : isMarked (a .t4 .gone) (OWNED * a .p + a .k) ≡ true = not-false _ (i .if1 .left) in
-    rw (c .replaced .ensures, found-on (a .l .now) (rw (own-position (a .p) (a .k) (s .pre .1 .0)) (s .pre .1 .1)) (c .before .entry-from .ensures), goes)
+    let found = found-on (a .l .now) (rw (own-position (a .p) (a .k) (s .pre .1 .0)) (s .pre .1 .1)) (c .before .entry-from .ensures) in
+    rw (c .replaced .ensures, found, goes)
 
 pub directory-gone-spec : {M : Type 1} → statement M
 directory-gone-spec =

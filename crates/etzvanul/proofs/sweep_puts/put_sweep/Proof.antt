@@ -1,10 +1,11 @@
 -- `etzvanul::sweep_puts::put_sweep` puts the new image: the event count, each change, and the rest. The invariants: what is left of the changes
 -- makes the buffer what it is to be, and a scan may go on from there. Assumes nothing.
-use mathlib.Core.Path.{ap, _∙_}
-use Prim.Native.Nat.{_+_, _-_, _*_, _≤_}
+use mathlib.Core.Path.{_≡_, ap, _∙_}
+use mathlib.Core.List.{List}
+use Prim.Native.Nat.{ℕ, _+_, _-_, _*_, _≤_}
 use native.Mathlib.Omega.{arith}
 use lib.ListN.{length}
-use lib.Seq.{length-sets}
+use lib.Seq.{sets, length-sets}
 use Rattle.terms.specs.BufferLaws.{sets-front}
 use Rattle.terms.specs.Limits.{OBJECTS, OWNED}
 use Rattle.image.specs.Order.{position}
@@ -71,12 +72,6 @@ put-change-requires c κs =
     let lt = c .before .before .loop-test .taken in
     ready-next (e .loop .inv .1) (object-next (a .l .now) (a .p) (a .s) (e .loop .i) lt) (c .object-gone .ensures)
 
-add-i : tie.Need-add-i Inv-loop μ-loop Inv-loop2 μ-loop2 Inv-loop3 μ-loop3
-add-i c = omega arith
-
-loop-less : tie.Need-loop-less Inv-loop μ-loop Inv-loop2 μ-loop2 Inv-loop3 μ-loop3
-loop-less c = omega arith
-
 loop-again : tie.Need-loop-again Inv-loop μ-loop Inv-loop2 μ-loop2 Inv-loop3 μ-loop3
 loop-again c =
     let e = c .before .before .before .before .before .before in
@@ -109,12 +104,6 @@ put-change-requires-2 c κs =
     let a = e .before .before .before .before .before .before .before .before .before .args in
     let lt = c .before .before .loop2-test .taken in
     ready-next (e .loop2 .inv .1) (directory-next (a .l .now) (a .p) (a .s) (e .loop2 .k) lt) (c .directory-gone .ensures)
-
-add-k : tie.Need-add-k Inv-loop μ-loop Inv-loop2 μ-loop2 Inv-loop3 μ-loop3
-add-k c = omega arith
-
-loop2-less : tie.Need-loop2-less Inv-loop μ-loop Inv-loop2 μ-loop2 Inv-loop3 μ-loop3
-loop2-less c = omega arith
 
 loop2-again : tie.Need-loop2-again Inv-loop μ-loop Inv-loop2 μ-loop2 Inv-loop3 μ-loop3
 loop2-again c =
@@ -149,12 +138,6 @@ put-change-requires-3 c κs =
     let lt = c .before .before .loop3-test .taken in
     ready-next (e .loop3 .inv .1) (entry-next (a .l .now) (a .p) (a .s) (e .loop3 .o) lt) (c .entry-unused .ensures)
 
-add-o : tie.Need-add-o Inv-loop μ-loop Inv-loop2 μ-loop2 Inv-loop3 μ-loop3
-add-o c = omega arith
-
-loop3-less : tie.Need-loop3-less Inv-loop μ-loop Inv-loop2 μ-loop2 Inv-loop3 μ-loop3
-loop3-less c = omega arith
-
 loop3-again : tie.Need-loop3-again Inv-loop μ-loop Inv-loop2 μ-loop2 Inv-loop3 μ-loop3
 loop3-again c =
     let e = c .before .before .before .before .before .before in
@@ -182,37 +165,35 @@ copy-part-requires c κs =
     let g = behind (e .loop3 .inv .1) (entries-done (a .l .now) (a .p) (a .s) (e .loop3 .o) (c .before .loop3-test .left)) in
     (rest-room g, omega (arith, g .orderly))
 
-same-length : tie.Need-same-length Inv-loop μ-loop Inv-loop2 μ-loop2 Inv-loop3 μ-loop3
-same-length c =
-    let end = c .before .before .before .before in
+-- all is copied
+abbrev Copied : Type 0
+Copied = tie.After-copy-part Inv-loop μ-loop Inv-loop2 μ-loop2 Inv-loop3 μ-loop3
+
+abbrev begin : Copied → tie.Start Inv-loop μ-loop Inv-loop2 μ-loop2 Inv-loop3 μ-loop3
+begin c = c .before .before .before .before .before .before .before .before .before .before .before .before .before .before
+
+abbrev new : Copied → List ℕ
+new c = let a = begin c .args in sweptImage (a .count) (a .l .now) (a .p) (a .s)
+
+stands : (c : Copied) → c .copy-part .last .0 ≡ sets (begin c .args .out .now) 0 (new c)
+stands c =
+    let end = c .before .before in
     let e3 = end .before in
     let e2 = e3 .before .before in
     let e1 = e2 .before .before in
-    let begun = e1 .before .before .before in
-    let s = begun .before .before .before .before in
+    let s = begin c in
     let a = s .args in
-    let g0 = sweep-begun (a .count) (a .l .now) (a .p) (a .s) (a .out .now) (s .pre .1 .0) (begun .put-to .ensures) in
+    let g0 = sweep-begun (a .count) (a .l .now) (a .p) (a .s) (a .out .now) (s .pre .1 .0) (e1 .before .before .before .put-to .ensures) in
     let g1 = behind (e1 .loop .inv .1) (objects-done (a .l .now) (a .p) (a .s) (e1 .loop .i) (e2 .before .loop-test .left)) in
     let g2 = behind (e2 .loop2 .inv .1) (directories-done (a .l .now) (a .p) (a .s) (e2 .loop2 .k) (e3 .before .loop2-test .left)) in
     let g3 = behind (e3 .loop3 .inv .1) (entries-done (a .l .now) (a .p) (a .s) (e3 .loop3 .o) (end .loop3-test .left)) in
-    let whole = c .before .before .copy-part .ensures ∙ ended g3 ∙ g2 .left ∙ g1 .left ∙ g0 .left in
-    ap length whole ∙ length-sets (a .out .now) 0 (sweptImage (a .count) (a .l .now) (a .p) (a .s))
+    c .copy-part .ensures ∙ ended g3 ∙ g2 .left ∙ g1 .left ∙ g0 .left
+
+same-length : tie.Need-same-length Inv-loop μ-loop Inv-loop2 μ-loop2 Inv-loop3 μ-loop3
+same-length c = let d = c .before .before in ap length (stands d) ∙ length-sets (begin d .args .out .now) 0 (new d)
 
 returns : tie.Need-returns Inv-loop μ-loop Inv-loop2 μ-loop2 Inv-loop3 μ-loop3
-returns c =
-    let end = c .before .before .before .before in
-    let e3 = end .before in
-    let e2 = e3 .before .before in
-    let e1 = e2 .before .before in
-    let begun = e1 .before .before .before in
-    let s = begun .before .before .before .before in
-    let a = s .args in
-    let g0 = sweep-begun (a .count) (a .l .now) (a .p) (a .s) (a .out .now) (s .pre .1 .0) (begun .put-to .ensures) in
-    let g1 = behind (e1 .loop .inv .1) (objects-done (a .l .now) (a .p) (a .s) (e1 .loop .i) (e2 .before .loop-test .left)) in
-    let g2 = behind (e2 .loop2 .inv .1) (directories-done (a .l .now) (a .p) (a .s) (e2 .loop2 .k) (e3 .before .loop2-test .left)) in
-    let g3 = behind (e3 .loop3 .inv .1) (entries-done (a .l .now) (a .p) (a .s) (e3 .loop3 .o) (end .loop3-test .left)) in
-    let whole = c .before .before .copy-part .ensures ∙ ended g3 ∙ g2 .left ∙ g1 .left ∙ g0 .left in
-    whole ∙ sets-front (a .out .now) (sweptImage (a .count) (a .l .now) (a .p) (a .s)) (s .pre .1 .0 .1)
+returns c = let d = c .before .before in stands d ∙ sets-front (begin d .args .out .now) (new d) (begin d .pre .1 .0 .1)
 
 pub put-sweep-spec : {M : Type 1} → statement M
 put-sweep-spec =
@@ -228,20 +209,17 @@ put-sweep-spec =
     loop-holds
     object-gone-requires
     put-change-requires
-    add-i
-    loop-less
+    (λ c. omega arith) (λ c. omega arith)
     loop-again
     loop2-holds
     directory-gone-requires
     put-change-requires-2
-    add-k
-    loop2-less
+    (λ c. omega arith) (λ c. omega arith)
     loop2-again
     loop3-holds
     entry-unused-requires
     put-change-requires-3
-    add-o
-    loop3-less
+    (λ c. omega arith) (λ c. omega arith)
     loop3-again
     sub-rest
     copy-part-requires

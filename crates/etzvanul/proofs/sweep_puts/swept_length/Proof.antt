@@ -55,16 +55,6 @@ length-with-requires c κs =
     let m = e .loop .inv .1 in
     (omega (arith, m .lasting .small), cut-next m (object-next (a .l .now) (a .p) (a .s) (e .loop .i) lt) (c .object-gone .ensures))
 
-place-after-requires :
-    tie.Need-place-after-requires Inv-loop μ-loop Inv-loop2 μ-loop2
-place-after-requires c κs = search needs
-
-add-i : tie.Need-add-i Inv-loop μ-loop Inv-loop2 μ-loop2
-add-i c = omega arith
-
-loop-less : tie.Need-loop-less Inv-loop μ-loop Inv-loop2 μ-loop2
-loop-less c = omega arith
-
 loop-again : tie.Need-loop-again Inv-loop μ-loop Inv-loop2 μ-loop2
 loop-again c =
     let e = c .before .before .before .before in
@@ -98,16 +88,6 @@ length-with-requires-2 c κs =
     let m = e .loop2 .inv .1 in
     (omega (arith, m .lasting .small), cut-next m (directory-next (a .l .now) (a .p) (a .s) (e .loop2 .k) lt) (c .directory-gone .ensures))
 
-place-after-requires-2 :
-    tie.Need-place-after-requires-2 Inv-loop μ-loop Inv-loop2 μ-loop2
-place-after-requires-2 c κs = search needs
-
-add-k : tie.Need-add-k Inv-loop μ-loop Inv-loop2 μ-loop2
-add-k c = omega arith
-
-loop2-less : tie.Need-loop2-less Inv-loop μ-loop Inv-loop2 μ-loop2
-loop2-less c = omega arith
-
 loop2-again : tie.Need-loop2-again Inv-loop μ-loop Inv-loop2 μ-loop2
 loop2-again c =
     let e = c .before .before .before .before in
@@ -139,15 +119,11 @@ swept-length-spec =
     loop-holds
     object-gone-requires
     length-with-requires
-    place-after-requires
-    add-i
-    loop-less
+    (search needs) (λ c. omega arith) (λ c. omega arith)
     loop-again
     loop2-holds
     directory-gone-requires
     length-with-requires-2
-    place-after-requires-2
-    add-k
-    loop2-less
+    (search needs) (λ c. omega arith) (λ c. omega arith)
     loop2-again
     returns)

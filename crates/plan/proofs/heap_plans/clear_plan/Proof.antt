@@ -4,19 +4,10 @@ use Rattle.plan.specs.Plan.{rootPlan}
 use Rattle.plan.proofs.heap_plans.clear_plan.Statement.{statement}
 use Rattle.plan.proofs.heap_plans.clear_plan.Tie as tie
 
-roots-from-requires : tie.Need-roots-from-requires
-roots-from-requires c κs = search needs
-
-roots-requires : tie.Need-roots-requires
-roots-requires c κs = search needs
-
-root-changed-requires : tie.Need-root-changed-requires
-root-changed-requires c κs = search needs
-
 returns : tie.Need-returns
 unfolding rootPlan
 returns c = rw (c .root-changed .ensures, ← c .before .before .roots-from .ensures, ← c .before .roots .ensures)
 
 pub clear-plan-spec : {M : Type 1} → statement M
 clear-plan-spec =
-    tie.close (tie.spec roots-from-requires roots-requires root-changed-requires returns)
+    tie.close (tie.spec (search needs) (search needs) (search needs) returns)

@@ -37,18 +37,6 @@ module _ (l : List ℕ) (p r k : ℕ) (found entry spot : Found) (named : Roots)
   new-is roots-found roots-told free entry-found entry-told object-found empty room absent =
       rw (← roots-found, ← roots-told, empty, ← free, room, ← entry-found, ← entry-told, absent, ← object-found)
 
-roots-from-requires : tie.Need-roots-from-requires
-roots-from-requires c κs = search needs
-
-roots-requires : tie.Need-roots-requires
-roots-requires c κs = search needs
-
-root-requires : tie.Need-root-requires
-root-requires c κs = search needs
-
-refused-requires : tie.Need-refused-requires
-refused-requires c κs = search needs
-
 returns : tie.Need-returns
 unfolding newPlan
 returns c =
@@ -60,12 +48,6 @@ returns c =
       ← root .root .ensures,
       ne-eqb _ _ (c .before .if1 .taken),
     )
-
-free-own-requires : tie.Need-free-own-requires
-free-own-requires c κs = search needs
-
-refused-requires-2 : tie.Need-refused-requires-2
-refused-requires-2 c κs = search needs
 
 returns-2 : tie.Need-returns-2
 unfolding newPlan
@@ -81,24 +63,6 @@ returns-2 c =
       ← free .free-own .ensures,
       le-ltb _ _ (c .before .if2 .taken),
     )
-
-mul-o : tie.Need-mul-o
-mul-o c = search needs
-
-add-o : tie.Need-add-o
-add-o c = search needs
-
-entry-from-requires : tie.Need-entry-from-requires
-entry-from-requires c κs = search needs
-
-entry-requires : tie.Need-entry-requires
-entry-requires c κs = search needs
-
-is-absent-requires : tie.Need-is-absent-requires
-is-absent-requires c κs = search needs
-
-refused-requires-3 : tie.Need-refused-requires-3
-refused-requires-3 c κs = search needs
 
 returns-3 : tie.Need-returns-3
 unfolding newPlan
@@ -118,27 +82,6 @@ returns-3 c =
       ← entry .before .entry .ensures,
       sym (entry .is-absent .ensures) ∙ not-true _ (c .before .if3 .taken),
     )
-
-object-from-requires : tie.Need-object-from-requires
-object-from-requires c κs = search needs
-
-with-root-requires : tie.Need-with-root-requires
-with-root-requires c κs = search needs
-
-born-requires : tie.Need-born-requires
-born-requires c κs = search needs
-
-of-object-requires : tie.Need-of-object-requires
-of-object-requires c κs = search needs
-
-replaced-requires : tie.Need-replaced-requires
-replaced-requires c κs = search needs
-
-of-roots-requires : tie.Need-of-roots-requires
-of-roots-requires c κs = search needs
-
-replaced-requires-2 : tie.Need-replaced-requires-2
-replaced-requires-2 c κs = search needs
 
 returns-4 : tie.Need-returns-4
 returns-4 c =
@@ -170,26 +113,11 @@ pub new-plan-spec : {M : Type 1} → statement M
 new-plan-spec =
     tie.close
     (tie.spec
-    roots-from-requires
-    roots-requires
-    root-requires
-    refused-requires
+    (search needs) (search needs) (search needs) (search needs)
     returns
-    free-own-requires
-    refused-requires-2
+    (search needs) (search needs)
     returns-2
-    mul-o
-    add-o
-    entry-from-requires
-    entry-requires
-    is-absent-requires
-    refused-requires-3
+    (search needs) (search needs) (search needs) (search needs) (search needs) (search needs)
     returns-3
-    object-from-requires
-    with-root-requires
-    born-requires
-    of-object-requires
-    replaced-requires
-    of-roots-requires
-    replaced-requires-2
+    (search needs) (search needs) (search needs) (search needs) (search needs) (search needs) (search needs)
     returns-4)

@@ -3,18 +3,9 @@ use borrow.Author.Needs.{needs}
 use Rattle.plan.proofs.heap_plans.root_changed.Statement.{statement}
 use Rattle.plan.proofs.heap_plans.root_changed.Tie as tie
 
-with-root-requires : tie.Need-with-root-requires
-with-root-requires c κs = search needs
-
-of-roots-requires : tie.Need-of-roots-requires
-of-roots-requires c κs = search needs
-
-replaced-requires : tie.Need-replaced-requires
-replaced-requires c κs = search needs
-
 returns : tie.Need-returns
 returns c = rw (c .replaced .ensures, c .before .of-roots .ensures, c .before .before .with-root .ensures)
 
 pub root-changed-spec : {M : Type 1} → statement M
 root-changed-spec =
-    tie.close (tie.spec with-root-requires of-roots-requires replaced-requires returns)
+    tie.close (tie.spec (search needs) (search needs) (search needs) returns)

@@ -5,18 +5,6 @@ use Rattle.plan.specs.Plan.{storePlan}
 use Rattle.plan.proofs.heap_plans.store_plan.Statement.{statement}
 use Rattle.plan.proofs.heap_plans.store_plan.Tie as tie
 
-roots-from-requires : tie.Need-roots-from-requires
-roots-from-requires c κs = search needs
-
-roots-requires : tie.Need-roots-requires
-roots-requires c κs = search needs
-
-root-requires : tie.Need-root-requires
-root-requires c κs = search needs
-
-refused-requires : tie.Need-refused-requires
-refused-requires c κs = search needs
-
 returns : tie.Need-returns
 unfolding storePlan
 returns c =
@@ -28,9 +16,6 @@ returns c =
       ← root .root .ensures,
       eq-eqb _ _ (c .before .if1 .taken),
     )
-
-refused-requires-2 : tie.Need-refused-requires-2
-refused-requires-2 c κs = search needs
 
 returns-2 : tie.Need-returns-2
 unfolding storePlan
@@ -44,15 +29,6 @@ returns-2 c =
       ne-eqb _ _ (c .before .before .if1 .left),
       ne-eqb _ _ (c .before .if2 .taken),
     )
-
-object-from-requires : tie.Need-object-from-requires
-object-from-requires c κs = search needs
-
-object-requires : tie.Need-object-requires
-object-requires c κs = search needs
-
-refused-requires-3 : tie.Need-refused-requires-3
-refused-requires-3 c κs = search needs
 
 returns-3 : tie.Need-returns-3
 unfolding storePlan
@@ -70,18 +46,6 @@ returns-3 c =
       ← object .object .ensures,
       not-true (object .object .result .live) (c .before .if3 .taken),
     )
-
-root-requires-2 : tie.Need-root-requires-2
-root-requires-2 c κs = search needs
-
-with-field-requires : tie.Need-with-field-requires
-with-field-requires c κs = search needs
-
-of-object-requires : tie.Need-of-object-requires
-of-object-requires c κs = search needs
-
-replaced-requires : tie.Need-replaced-requires
-replaced-requires c κs = search needs
 
 returns-4 : tie.Need-returns-4
 unfolding storePlan
@@ -107,19 +71,11 @@ pub store-plan-spec : {M : Type 1} → statement M
 store-plan-spec =
     tie.close
     (tie.spec
-    roots-from-requires
-    roots-requires
-    root-requires
-    refused-requires
+    (search needs) (search needs) (search needs) (search needs)
     returns
-    refused-requires-2
+    (search needs)
     returns-2
-    object-from-requires
-    object-requires
-    refused-requires-3
+    (search needs) (search needs) (search needs)
     returns-3
-    root-requires-2
-    with-field-requires
-    of-object-requires
-    replaced-requires
+    (search needs) (search needs) (search needs) (search needs)
     returns-4)

@@ -22,26 +22,11 @@ loop-holds : tie.Need-loop-holds Inv-loop μ-loop
 unfolding freeOwnIn
 loop-holds c = (omega arith, refl)
 
-mul-is-live : tie.Need-mul-is-live Inv-loop μ-loop
-mul-is-live c = search needs
-
-add-is-live : tie.Need-add-is-live Inv-loop μ-loop
-add-is-live c = search needs
-
-is-live-requires : tie.Need-is-live-requires Inv-loop μ-loop
-is-live-requires c κs = search needs
-
 returns : tie.Need-returns Inv-loop μ-loop
 returns c =
     let l = c .before .before .before in
     let passes = ap not (sym (c .before .is-live .ensures)) ∙ c .if1 .taken in
     sym (l .loop .inv .1 ∙ lowestFrom-passes (c .before .before .loop-test .taken) _ passes)
-
-add-free : tie.Need-add-free Inv-loop μ-loop
-add-free c = omega arith
-
-loop-less : tie.Need-loop-less Inv-loop μ-loop
-loop-less c = omega arith
 
 loop-again : tie.Need-loop-again Inv-loop μ-loop
 loop-again c =
@@ -59,11 +44,8 @@ free-own-spec =
     Inv-loop
     μ-loop
     loop-holds
-    mul-is-live
-    add-is-live
-    is-live-requires
+    (search needs) (search needs) (search needs)
     returns
-    add-free
-    loop-less
+    (λ c. omega arith) (λ c. omega arith)
     loop-again
     returns-2)

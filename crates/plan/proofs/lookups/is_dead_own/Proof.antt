@@ -9,12 +9,10 @@ returns : tie.Need-returns
 unfolding isDeadOwnIn
 returns c = rw (ne-eqb _ _ (c .if1 .taken))
 
-is-live-requires : tie.Need-is-live-requires
-is-live-requires c κs = search needs
-
 returns-2 : tie.Need-returns-2
 unfolding isDeadOwnIn
 returns-2 c = rw (eq-eqb _ _ (c .before .if1 .left), c .is-live .ensures)
 
 pub is-dead-own-spec : {M : Type 1} → statement M
-is-dead-own-spec = tie.close (tie.spec returns is-live-requires returns-2)
+is-dead-own-spec =
+    tie.close (tie.spec returns (search needs) returns-2)

@@ -3,14 +3,9 @@ use borrow.Author.Needs.{needs}
 use Rattle.plan.proofs.lookups.is_live.Statement.{statement}
 use Rattle.plan.proofs.lookups.is_live.Tie as tie
 
-object-from-requires : tie.Need-object-from-requires
-object-from-requires c κs = search needs
-
-object-requires : tie.Need-object-requires
-object-requires c κs = search needs
-
 returns : tie.Need-returns
 returns c = rw (c .object .ensures, c .before .object-from .ensures)
 
 pub is-live-spec : {M : Type 1} → statement M
-is-live-spec = tie.close (tie.spec object-from-requires object-requires returns)
+is-live-spec =
+    tie.close (tie.spec (search needs) (search needs) returns)

@@ -6,18 +6,9 @@ use Rattle.plan.specs.Plan.{dropPlan}
 use Rattle.plan.proofs.message_plans.drop_directory.Statement.{statement}
 use Rattle.plan.proofs.message_plans.drop_directory.Tie as tie
 
-may-go-requires : tie.Need-may-go-requires
-may-go-requires c κs = search needs
-
-refused-requires : tie.Need-refused-requires
-refused-requires c κs = search needs
-
 returns : tie.Need-returns
 unfolding dropPlan
 returns c = rw (c .refused .ensures, sym (c .before .before .may-go .ensures) ∙ not-true _ (c .before .if1 .taken))
-
-replaced-requires : tie.Need-replaced-requires
-replaced-requires c κs = search needs
 
 returns-2 : tie.Need-returns-2
 unfolding dropPlan
@@ -29,4 +20,4 @@ returns-2 c = rw (
 
 pub drop-directory-spec : {M : Type 1} → statement M
 drop-directory-spec =
-    tie.close (tie.spec may-go-requires refused-requires returns replaced-requires returns-2)
+    tie.close (tie.spec (search needs) (search needs) returns (search needs) returns-2)

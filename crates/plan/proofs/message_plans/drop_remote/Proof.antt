@@ -6,21 +6,9 @@ use Rattle.plan.specs.Plan.{dropPlan}
 use Rattle.plan.proofs.message_plans.drop_remote.Statement.{statement}
 use Rattle.plan.proofs.message_plans.drop_remote.Tie as tie
 
-may-go-requires : tie.Need-may-go-requires
-may-go-requires c κs = search needs
-
-refused-requires : tie.Need-refused-requires
-refused-requires c κs = search needs
-
 returns : tie.Need-returns
 unfolding dropPlan
 returns c = rw (c .refused .ensures, sym (c .before .before .may-go .ensures) ∙ not-true _ (c .before .if1 .taken))
-
-empty-place-requires : tie.Need-empty-place-requires
-empty-place-requires c κs = search needs
-
-refused-requires-2 : tie.Need-refused-requires-2
-refused-requires-2 c κs = search needs
 
 returns-2 : tie.Need-returns-2
 unfolding dropPlan
@@ -30,15 +18,6 @@ returns-2 c = rw (
   ← c .before .before .empty-place .ensures .0,
   le-ltb _ _ (c .before .if2 .taken),
 )
-
-last-words-requires : tie.Need-last-words-requires
-last-words-requires c κs = search needs
-
-replaced-requires : tie.Need-replaced-requires
-replaced-requires c κs = search needs
-
-replaced-requires-2 : tie.Need-replaced-requires-2
-replaced-requires-2 c κs = search needs
 
 returns-3 : tie.Need-returns-3
 unfolding dropPlan
@@ -60,13 +39,9 @@ pub drop-remote-spec : {M : Type 1} → statement M
 drop-remote-spec =
     tie.close
     (tie.spec
-    may-go-requires
-    refused-requires
+    (search needs) (search needs)
     returns
-    empty-place-requires
-    refused-requires-2
+    (search needs) (search needs)
     returns-2
-    last-words-requires
-    replaced-requires
-    replaced-requires-2
+    (search needs) (search needs) (search needs)
     returns-3)

@@ -5,30 +5,6 @@ use Rattle.plan.specs.Plan.{receivePlan}
 use Rattle.plan.proofs.message_plans.receive_plan.Statement.{statement}
 use Rattle.plan.proofs.message_plans.receive_plan.Tie as tie
 
-message-from-requires : tie.Need-message-from-requires
-message-from-requires c κs = search needs
-
-message-requires : tie.Need-message-requires
-message-requires c κs = search needs
-
-enum-told : tie.Need-enum-told
-enum-told c = search needs
-
-refused-requires : tie.Need-refused-requires
-refused-requires c κs = search needs
-
-enum-known-message : tie.Need-enum-known-message
-enum-known-message c = search needs
-
-receive-reference-requires : tie.Need-receive-reference-requires
-receive-reference-requires c κs = search needs
-
-enum-told-2 : tie.Need-enum-told-2
-enum-told-2 c = search needs
-
-refused-requires-2 : tie.Need-refused-requires-2
-refused-requires-2 c κs = search needs
-
 returns : tie.Need-returns
 unfolding receivePlan
 returns c = rw (
@@ -56,14 +32,7 @@ pub receive-plan-spec : {M : Type 1} → statement M
 receive-plan-spec =
     tie.close
     (tie.spec
-    message-from-requires
-    message-requires
-    enum-told
-    refused-requires
-    enum-known-message
-    receive-reference-requires
-    enum-told-2
-    refused-requires-2
+    (search needs) (search needs) (search needs) (search needs) (search needs) (λ c κs. search needs) (search needs) (search needs)
     returns
     returns-2
     returns-3)

@@ -9,25 +9,13 @@ use Rattle.plan.specs.Plan.{sendPlan}
 use Rattle.plan.proofs.message_plans.send_plan.Statement.{statement}
 use Rattle.plan.proofs.message_plans.send_plan.Tie as tie
 
-refused-requires : tie.Need-refused-requires
-refused-requires c κs = search needs
-
 returns : tie.Need-returns
 unfolding sendPlan
 returns c = rw (c .refused .ensures, eq-eqb _ _ (c .before .if1 .taken))
 
-refused-requires-2 : tie.Need-refused-requires-2
-refused-requires-2 c κs = search needs
-
 returns-2 : tie.Need-returns-2
 unfolding sendPlan
 returns-2 c = rw (c .refused2 .ensures, ne-eqb _ _ (c .before .before .if1 .left), eq-eqb _ _ (c .before .if2 .taken))
-
-is-dead-own-requires : tie.Need-is-dead-own-requires
-is-dead-own-requires c κs = search needs
-
-refused-requires-3 : tie.Need-refused-requires-3
-refused-requires-3 c κs = search needs
 
 returns-3 : tie.Need-returns-3
 unfolding sendPlan
@@ -37,21 +25,6 @@ returns-3 c = rw (
   ne-eqb _ _ (c .before .before .before .if2 .left),
   sym (c .before .before .is-dead-own .ensures) ∙ c .before .if3 .taken,
 )
-
-entry-from-requires : tie.Need-entry-from-requires
-entry-from-requires c κs = search needs
-
-entry-requires : tie.Need-entry-requires
-entry-requires c κs = search needs
-
-sent-requires : tie.Need-sent-requires
-sent-requires c κs = search needs
-
-refuses-requires : tie.Need-refuses-requires
-refuses-requires c κs = search needs
-
-refused-requires-4 : tie.Need-refused-requires-4
-refused-requires-4 c κs = search needs
 
 returns-4 : tie.Need-returns-4
 unfolding sendPlan
@@ -68,12 +41,6 @@ returns-4 c =
       ← c .before .before .before .sent .ensures,
       sym (c .before .before .refuses .ensures) ∙ c .before .if4 .taken,
     )
-
-empty-place-requires : tie.Need-empty-place-requires
-empty-place-requires c κs = search needs
-
-refused-requires-5 : tie.Need-refused-requires-5
-refused-requires-5 c κs = search needs
 
 returns-5 : tie.Need-returns-5
 unfolding sendPlan
@@ -93,12 +60,6 @@ returns-5 c =
       ← c .before .before .empty-place .ensures .0,
       le-ltb _ _ (c .before .if5 .taken),
     )
-
-replaced-requires : tie.Need-replaced-requires
-replaced-requires c κs = search needs
-
-replaced-requires-2 : tie.Need-replaced-requires-2
-replaced-requires-2 c κs = search needs
 
 returns-6 : tie.Need-returns-6
 returns-6 c =
@@ -124,22 +85,15 @@ pub send-plan-spec : {M : Type 1} → statement M
 send-plan-spec =
     tie.close
     (tie.spec
-    refused-requires
+    (search needs)
     returns
-    refused-requires-2
+    (search needs)
     returns-2
-    is-dead-own-requires
-    refused-requires-3
+    (search needs) (search needs)
     returns-3
-    entry-from-requires
-    entry-requires
-    sent-requires
-    refuses-requires
-    refused-requires-4
+    (search needs) (search needs) (search needs) (search needs) (search needs)
     returns-4
-    empty-place-requires
-    refused-requires-5
+    (search needs) (search needs)
     returns-5
-    replaced-requires
-    replaced-requires-2
+    (search needs) (search needs)
     returns-6)

@@ -5,21 +5,6 @@ use Rattle.plan.specs.Plan.{settlePlan}
 use Rattle.plan.proofs.message_plans.settle_decrement.Statement.{statement}
 use Rattle.plan.proofs.message_plans.settle_decrement.Tie as tie
 
-entry-from-requires : tie.Need-entry-from-requires
-entry-from-requires c κs = search needs
-
-entry-requires : tie.Need-entry-requires
-entry-requires c κs = search needs
-
-settled-requires : tie.Need-settled-requires
-settled-requires c κs = search needs
-
-refuses-requires : tie.Need-refuses-requires
-refuses-requires c κs = search needs
-
-refused-requires : tie.Need-refused-requires
-refused-requires c κs = search needs
-
 returns : tie.Need-returns
 unfolding settlePlan
 returns c = rw (
@@ -29,12 +14,6 @@ returns c = rw (
   ← c .before .before .before .settled .ensures,
   sym (c .before .before .refuses .ensures) ∙ c .before .if1 .taken,
 )
-
-replaced-requires : tie.Need-replaced-requires
-replaced-requires c κs = search needs
-
-replaced-requires-2 : tie.Need-replaced-requires-2
-replaced-requires-2 c κs = search needs
 
 returns-2 : tie.Need-returns-2
 unfolding settlePlan
@@ -52,12 +31,7 @@ pub settle-decrement-spec : {M : Type 1} → statement M
 settle-decrement-spec =
     tie.close
     (tie.spec
-    entry-from-requires
-    entry-requires
-    settled-requires
-    refuses-requires
-    refused-requires
+    (search needs) (search needs) (search needs) (search needs) (search needs)
     returns
-    replaced-requires
-    replaced-requires-2
+    (search needs) (search needs)
     returns-2)

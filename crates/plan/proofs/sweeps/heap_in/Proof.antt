@@ -26,7 +26,8 @@ abbrev μ-loop : tie.MeasureT-loop
 
 abbrev Inv-loop2 : tie.InvT-loop2
 Inv-loop2 image h₀ at₀ o p₀ h at p =
-    (p ≤ NODES) × From image at (position 2 p) × (h .objects ≡ list OBJECTS (objectOf image)) × Filled noRoots (rootsOf image) (freshHeap .roots) p (h .roots)
+    (p ≤ NODES) × From image at (position 2 p) × (h .objects ≡ list OBJECTS (objectOf image))
+    × Filled noRoots (rootsOf image) (freshHeap .roots) p (h .roots)
 
 abbrev μ-loop2 : tie.MeasureT-loop2
 μ-loop2 image h₀ at₀ o p₀ h at p = NODES - p

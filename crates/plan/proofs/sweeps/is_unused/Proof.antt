@@ -7,18 +7,12 @@ use Rattle.plan.proofs.sweeps.is_unused.Tie as tie
 returns : tie.Need-returns
 returns c = rw (eq-eqb _ _ (c .if1 .taken))
 
-element-copy-out-if2 : tie.Need-element-copy-out-if2
-element-copy-out-if2 c = search needs
-
 returns-2 : tie.Need-returns-2
 returns-2 c = rw (ne-eqb _ _ (c .before .before .if1 .left), c .if2 .taken)
-
-element-copy-out-result : tie.Need-element-copy-out-result
-element-copy-out-result c = search needs
 
 returns-3 : tie.Need-returns-3
 returns-3 c = rw (ne-eqb _ _ (c .before .before .before .if1 .left), c .before .if2 .left)
 
 pub is-unused-spec : {M : Type 1} → statement M
 is-unused-spec =
-    tie.close (tie.spec returns element-copy-out-if2 returns-2 element-copy-out-result returns-3)
+    tie.close (tie.spec returns (search needs) returns-2 (search needs) returns-3)
