@@ -11,7 +11,7 @@ use lib.Dec.{eqb}
 use lib.ListN.{set}
 use borrow.Author.Tests.{eq-eqb, ne-eqb}
 use Rattle.terms.specs.Choose.{if_then_else_}
-use Rattle.terms.specs.Limits.{NODES, OBJECTS, OWNED, PLACES, owner}
+use Rattle.terms.specs.Limits.{NODES, OBJECTS, OWNED, owner}
 use Rattle.entry.specs.declared.Entry.{Entry}
 use Rattle.entry.specs.Fits.{fitsEntry}
 use Rattle.heap.specs.declared.Roots.{Roots}

@@ -2,7 +2,7 @@
 -- Assumes nothing.
 use mathlib.Core.Path.{_≡_, ap, _∙_}
 use mathlib.Core.Bool.{true}
-use mathlib.Core.List.{List, []}
+use mathlib.Core.List.{List}
 use Rattle.table.specs.declared.Table.{Table}
 use Rattle.table.specs.Formed.{Formed}
 use Rattle.table.specs.Shape.{fitsTable}

@@ -3,7 +3,7 @@ use crate::Deed;
 use crate::Outcome;
 use table::Table;
 ghost use mathlib.Core.Path.{_≡_};
-ghost use Rattle.step.specs.Outcome.{refused, did, valueOf, decrementsSent, decrementsSaved};
+ghost use Rattle.step.specs.Outcome.{refused, did};
 
 impl Outcome {
     pub const ACCEPTED: u8 = 0;
