@@ -51,6 +51,6 @@ fresh-from (suc n) now t l refused = go (takeRecord now t l) (λ now′ t′ l�
     go (finished u) more refused = absurd (refused refl)
     go (onward now′ t′ rest) more refused = more now′ t′ rest refused
 
-pub read-stays : (l : List ℕ) → (read l .answer ≡ ACCEPTED → ⊥) → read l .table ≡ freshTable
+pub read-fresh : (l : List ℕ) → (read l .answer ≡ ACCEPTED → ⊥) → read l .table ≡ freshTable
 unfolding read
-read-stays l = fresh-from (length l) firstTurn freshTable l
+read-fresh l = fresh-from (length l) firstTurn freshTable l
