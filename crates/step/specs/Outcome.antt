@@ -8,7 +8,8 @@ use Rattle.terms.specs.Choose.{Refusal, answered}
 use Rattle.terms.specs.Numbers.{ACCEPTED}
 use Rattle.table.specs.declared.Table.{Table}
 use Rattle.step.specs.declared.Deed.{Deed}
-use Rattle.step.specs.declared.Deed.the-variants.{Refused, Arranged, Born, Sent, CameHome, Made, Merged, Answered, Settled, Collected, Dropped, Cleared}
+use Rattle.step.specs.declared.Deed.the-variants.{Refused, Arranged, Born, Sent, CameHome, Made, Merged, Answered, Settled}
+use Rattle.step.specs.declared.Deed.the-variants.{Collected, Dropped, Cleared}
 use Rattle.step.specs.declared.Outcome.{Outcome}
 
 -- refused: the state as it was
