@@ -11,6 +11,7 @@ use lib.Seq.{ext-getD, getD-set-same, getD-set-other}
 use borrow.Author.Tests.{ltb-true, ltb-false, lt-ltb}
 use Rattle.terms.specs.Choose.{if_then_else_}
 use Rattle.terms.specs.Limits.{NODES, OBJECTS}
+use Rattle.terms.specs.SetLaws.{set-all}
 use Rattle.entry.specs.declared.Entry.{Entry}
 use Rattle.entry.specs.declared.Entry.the-variants.{Absent}
 use Rattle.table.specs.declared.Cell.{Cell}
@@ -19,7 +20,7 @@ use Rattle.table.specs.declared.Table.{Table}
 use Rattle.table.specs.Formed.{Formed}
 use Rattle.table.specs.Fresh.{fresh-entry, fresh-formed}
 use Rattle.table.specs.Table.{freshTable, cellAt, cellWith, entryIn, entryAt}
-use Rattle.table.specs.TableLaws.{cell-kept, cell-set, set-all}
+use Rattle.table.specs.TableLaws.{cell-kept, cell-set}
 
 abbrev noCell : Cell
 noCell = record { at = [] }

@@ -7,6 +7,7 @@ use Prim.Native.Nat.{ℕ, _<_}
 use lib.ListN.{length, getD, set, length-set}
 use Rattle.terms.specs.Counted.{everyFrom}
 use Rattle.terms.specs.Limits.{NODES, OBJECTS, PLACES, FIELDS, ROOTS}
+use Rattle.terms.specs.SetLaws.{every-set, set-all}
 use Rattle.entry.specs.declared.Entry.{Entry}
 use Rattle.entry.specs.declared.Entry.the-variants.{Absent}
 use Rattle.entry.specs.Fits.{fitsEntry}
@@ -23,7 +24,6 @@ use Rattle.table.specs.Formed.{Formed}
 use Rattle.table.specs.Shape.{fitsCount, fitsMessage, fitsTable}
 use Rattle.table.specs.Table.{cellWith, entryIn}
 use Rattle.table.specs.ShapeLaws.{Shaped, in-shape}
-use Rattle.table.specs.TableLaws.{every-set, set-all}
 
 -- ---- the parts
 

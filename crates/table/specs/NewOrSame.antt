@@ -8,6 +8,7 @@ use native.Mathlib.Decide.{ℕ-discrete, decLt}
 use native.Mathlib.Omega.{arith}
 use lib.ListN.{length, getD, set}
 use lib.Seq.{getD-set-same, getD-set-other, set-out}
+use Rattle.terms.specs.SetLaws.{set-either}
 use Rattle.entry.specs.declared.Entry.{Entry}
 use Rattle.heap.specs.declared.Heap.{Heap}
 use Rattle.heap.specs.declared.Object.{Object}
@@ -19,16 +20,6 @@ use Rattle.table.specs.declared.Place.{Place}
 use Rattle.table.specs.declared.Slot.{Slot}
 use Rattle.table.specs.declared.Table.{Table}
 use Rattle.table.specs.Table.{cellAt, cellWith, entryAt, entryIn, messageAt, withEntry, withMessage}
-
--- element j after element i was set
-pub set-either : {A : Type 0} (l : List A) (i j : ℕ) (a d : A) → ((j ≡ i) × (getD (set l i a) j d ≡ a)) ⊎ (getD (set l i a) j d ≡ getD l j d)
-set-either l i j a d = elim (ℕ-discrete j i) [
-  | yes same ↦ elim (decLt i (length l)) [
-    | yes lt ↦ inl (same, rw same (getD-set-same l i a d lt))
-    | no past ↦ inr (rw (set-out l i a (omega arith)))
-  ]
-  | no other ↦ inr (getD-set-other l i j a d other)
-]
 
 -- root s of node q after root r of node p was set
 pub root-either : (h : Heap) (p r x q s : ℕ) → ((q ≡ p) × (rootAt (withRoot h p r x) q s ≡ x)) ⊎ (rootAt (withRoot h p r x) q s ≡ rootAt h q s)

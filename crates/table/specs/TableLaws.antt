@@ -20,17 +20,7 @@ use Rattle.table.specs.declared.Slot.{Slot}
 use Rattle.table.specs.declared.Table.{Table}
 use Rattle.table.specs.Formed.{Formed}
 use Rattle.table.specs.Table.{cellAt, cellWith, entryAt, entryIn, messageAt, withEntry, withMessage}
-use Rattle.table.specs.NewOrSame.{entry-either, message-either, set-either}
-
--- what holds of the new element, and of an element that stands at j, holds at j after the new one is set
-pub set-all : {A : Type 0} (P : ℕ → A → Type 0) (l : List A) (i : ℕ) (x d : A) → P i x → (j : ℕ) → P j (getD l j d) → P j (getD (set l i x) j d)
-set-all P l i x d px j pj = ⊎-elim (λ new. rw (new .1, new .0) px) (λ same. rw same pj) (set-either l i j x d)
-
--- where each of n elements passes a test, each does after one that passes is set
-pub every-set : (n : ℕ) (test : ℕ → Bool) (l : List ℕ) (i x : ℕ) → test x ≡ true → every n (λ k. test (getD l k 0)) ≡ true
-    → every n (λ k. test (getD (set l i x) k 0)) ≡ true
-every-set n test l i x new old =
-    every-all n _ (λ k low. set-all (λ j y. test y ≡ true) l i x 0 new k (every-at n (λ j. test (getD l j 0)) old k low))
+use Rattle.table.specs.NewOrSame.{entry-either, message-either}
 
 -- ---- entries
 

@@ -80,12 +80,12 @@ module _ {i n : ℕ} (lt : i < n) where
 
   module _ (test : ℕ → Bool) where
     -- where i passes, every one passes where the rest do
-    pub everyFrom-passes : test i ≡ true → everyFrom i (n - i) test ≡ everyFrom (i + 1) (n - (i + 1)) test
+    everyFrom-passes : test i ≡ true → everyFrom i (n - i) test ≡ everyFrom (i + 1) (n - (i + 1)) test
     unfolding everyFrom
     everyFrom-passes e = rw (rest, add-one, e)
 
     -- where i fails, not every one passes
-    pub everyFrom-fails : test i ≡ false → everyFrom i (n - i) test ≡ false
+    everyFrom-fails : test i ≡ false → everyFrom i (n - i) test ≡ false
     unfolding everyFrom
     everyFrom-fails e = rw (rest, e)
 
@@ -114,7 +114,7 @@ none-from : {i n : ℕ} → n ≤ i → n - i ≡ 0
 none-from le = omega arith
 
 -- so every one of them passes
-pub everyFrom-none : {i n : ℕ} → n ≤ i → (test : ℕ → Bool) → everyFrom i (n - i) test ≡ true
+everyFrom-none : {i n : ℕ} → n ≤ i → (test : ℕ → Bool) → everyFrom i (n - i) test ≡ true
 unfolding everyFrom
 everyFrom-none le test = rw (none-from le)
 

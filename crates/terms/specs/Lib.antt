@@ -7,3 +7,4 @@ pub mod CountedLaws
 pub mod Limits
 pub mod ListLaws
 pub mod Numbers
+pub mod SetLaws

@@ -8,10 +8,11 @@ use native.Mathlib.Omega.{arith}
 use lib.ListN.{getD, getD-replicate, length, set}
 use lib.Seq.{getD-set-same}
 use Rattle.terms.specs.Limits.{NODES, OBJECTS, OWNED, FIELDS, NONE, owner}
+use Rattle.terms.specs.SetLaws.{set-either}
 use Rattle.heap.specs.declared.Object.{Object}
 use Rattle.heap.specs.Heap.{born, fieldAt, freeOwn, isLive, objectAt, withField, withObject, withRoot}
 use Rattle.table.specs.declared.Table.{Table}
-use Rattle.table.specs.NewOrSame.{object-either, root-either, set-either}
+use Rattle.table.specs.NewOrSame.{object-either, root-either}
 use Rattle.table.specs.Table.{withCount, withHeap}
 use Rattle.step.specs.New.{chosen, withNew}
 use Rattle.laws.specs.Heap.Growing.{Keeps, grows-held, keeps-well}
