@@ -21,7 +21,8 @@ use Rattle.step.specs.declared.Event.{Event}
 use Rattle.step.specs.declared.Kind.the-variants.{Collect}
 use Rattle.step.specs.Event.{COLLECT, fitsEvent, kindOf}
 use Rattle.etzvanul.specs.Amended.{Asked, unfit-back, ended-back}
-use Rattle.etzvanul.proofs.Slices.{slice-bytes, slice-told}
+use Rattle.plan.proofs.Slices.{slice-bytes}
+use Rattle.etzvanul.proofs.Slices.{slice-told}
 use Rattle.etzvanul.proofs.amends.amend.Statement.{statement}
 use Rattle.etzvanul.proofs.amends.amend.Tie as tie
 

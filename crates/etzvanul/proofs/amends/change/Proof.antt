@@ -4,7 +4,8 @@ use native.Mathlib.Omega.{arith}
 use borrow.Author.Needs.{needs}
 use Rattle.image.specs.RoundTrip.{accepted-size}
 use Rattle.etzvanul.specs.Amended.{change-orderly, change-back}
-use Rattle.etzvanul.proofs.Slices.{slice-bytes, slice-told}
+use Rattle.plan.proofs.Slices.{slice-bytes}
+use Rattle.etzvanul.proofs.Slices.{slice-told}
 use Rattle.etzvanul.proofs.amends.change.Statement.{statement}
 use Rattle.etzvanul.proofs.amends.change.Tie as tie
 

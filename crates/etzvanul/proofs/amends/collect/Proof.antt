@@ -5,7 +5,8 @@ use Rattle.image.specs.Reader.{read}
 use Rattle.image.specs.RoundTrip.{accepted-size}
 use Rattle.etzvanul.specs.Amended.{collect-node, collect-orderly, collect-back}
 use Rattle.etzvanul.specs.SweepOnward.{resumes}
-use Rattle.etzvanul.proofs.Slices.{slice-bytes, slice-told}
+use Rattle.plan.proofs.Slices.{slice-bytes}
+use Rattle.etzvanul.proofs.Slices.{slice-told}
 use Rattle.etzvanul.proofs.amends.collect.Statement.{statement}
 use Rattle.etzvanul.proofs.amends.collect.Tie as tie
 
