@@ -2,12 +2,9 @@
 -- there before. It holds for lists of any length, so nothing is asked of the table. Assumes nothing.
 use mathlib.Core.Path.{_≡_, ap, _∙_}
 use mathlib.Core.Logic.{_⊎_, inl, inr, ⊎-elim}
-use mathlib.Core.List.{List, []}
+use mathlib.Core.List.{[]}
 use Prim.Native.Nat.{ℕ}
-use native.Mathlib.Decide.{ℕ-discrete, decLt}
-use native.Mathlib.Omega.{arith}
-use lib.ListN.{length, getD, set}
-use lib.Seq.{getD-set-same, getD-set-other, set-out}
+use lib.ListN.{getD, set}
 use Rattle.terms.specs.SetLaws.{set-either}
 use Rattle.entry.specs.declared.Entry.{Entry}
 use Rattle.heap.specs.declared.Heap.{Heap}

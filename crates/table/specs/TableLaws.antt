@@ -1,14 +1,11 @@
 -- What stands where in a table of which one thing was changed: the new thing in its spot, the old ones in all others. Assumes nothing.
 use mathlib.Core.Path.{_≡_, ap, _∙_}
 use mathlib.Core.Logic.{_≢_, ⊎-elim}
-use mathlib.Core.Bool.{Bool, true}
-use mathlib.Core.List.{List, []}
+use mathlib.Core.List.{[]}
 use Prim.Native.Nat.{ℕ, _<_}
 use native.Mathlib.Omega.{arith}
-use lib.ListN.{length, getD, set}
+use lib.ListN.{length}
 use lib.Seq.{getD-set-same, getD-set-other}
-use Rattle.terms.specs.Counted.{every}
-use Rattle.terms.specs.CountedLaws.{every-all, every-at}
 use Rattle.terms.specs.Limits.{NODES, OBJECTS, PLACES}
 use Rattle.entry.specs.declared.Entry.{Entry}
 use Rattle.entry.specs.declared.Entry.the-variants.{Absent}
