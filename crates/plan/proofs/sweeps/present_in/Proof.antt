@@ -38,10 +38,10 @@ loop-again c =
     (λ w.
     let at = other-position p o (w .0 .taken) in
     let found = found-on _ (rw at (l .loop .inv .1)) (w .1 .ensures) in
-    let on = from-found _ (slice-bytes (s .before .args .image .now) (s .shared-slice-known .given)) _ _ found _ (rw at (omega arith)) in
+    let bytes = slice-bytes (s .before .args .image .now) (s .shared-slice-known .given) in
     let away = ne-eqb (owner o) p (λ e. w .0 .taken (sym e)) in
     let written = filled-set (l .loop .inv .2) (w .3 .result) lt (rw (w .3 .ensures, w .2 .ensures, found, away)) in
-    rw (w .4, w .5) (omega arith, on, written))
+    rw (w .4, w .5) (omega arith, from-found _ bytes _ _ found _ (rw at (omega arith)), written))
     (λ w.
     let on = from-later _ (l .loop .at) _ (position 4 (256 * p + (o + 1))) (omega arith) (l .loop .inv .1) in
     let own = eq-eqb (owner o) p (sym (w .0 .left)) in
