@@ -43,8 +43,6 @@ pub(crate) fn message_from(l: &[u8], from: usize, s: u8) -> Found
     look_from(l, from, place_of(RecordKind::Reference, s, 0))
 }
 
-// ---- objects that aren't live
-
 // What root r of p holds.
 pub(crate) fn root_of(l: &[u8], p: u8, r: u8) -> u8
     ensures { λ x. ⌜ x ≡ rootOf (now (l .entry)) p r ⌝ }
@@ -54,6 +52,8 @@ pub(crate) fn root_of(l: &[u8], p: u8, r: u8) -> u8
     let named = held.roots();
     named.root(r)
 }
+
+// ---- objects that aren't live
 
 fn is_live(l: &[u8], o: u8) -> bool
     ensures { λ r. ⌜ r ≡ objectOf (now (l .entry)) o .live ⌝ }

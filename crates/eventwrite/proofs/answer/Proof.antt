@@ -4,9 +4,9 @@ use Prim.Native.Nat.{_≤_}
 use native.Mathlib.Omega.{arith}
 use lib.ListN.{length}
 use lib.Seq.{length-take-le}
+use borrow.Author.Needs.{needs}
 use Rattle.scenario.specs.declared.Written.{Written}
 use Rattle.scenario.specs.RecordLaws.{written-fits}
-use borrow.Author.Needs.{needs}
 use Rattle.eventwrite.proofs.answer.Statement.{statement}
 use Rattle.eventwrite.proofs.answer.Tie as tie
 

@@ -1,8 +1,8 @@
 -- `fieldrun::main` writes the text that `run` told: it lies inside the buffer. Assumes nothing.
 use mathlib.Core.Path.{sym}
 use lib.Seq.{length-take-le}
-use Rattle.run.specs.RanLaws.{ran-inside}
 use borrow.Author.Needs.{needs}
+use Rattle.run.specs.RanLaws.{ran-inside}
 use Rattle.fieldrun.proofs.main.Statement.{statement}
 use Rattle.fieldrun.proofs.main.Tie as tie
 

@@ -2,8 +2,8 @@
 use native.Mathlib.Numerals.{towards-suc}
 use native.Mathlib.Omega.{arith}
 use lib.ListN.{length-set}
-use Rattle.scenario.specs.RecordLaws.{record-bytes}
 use borrow.Author.Needs.{needs}
+use Rattle.scenario.specs.RecordLaws.{record-bytes}
 use Rattle.scenario.proofs.put.Statement.{statement}
 use Rattle.scenario.proofs.put.Tie as tie
 

@@ -2,12 +2,12 @@
 use mathlib.Core.Path.{_≡_, refl, ap, _∙_}
 use native.Mathlib.Omega.{arith}
 use lib.ListN.{length}
+use borrow.Author.Needs.{needs}
 use Rattle.step.specs.declared.Event.{Event}
 use Rattle.scenario.specs.declared.Line.{Line}
 use Rattle.scenario.specs.declared.Line.the-variants.{One}
 use Rattle.scenario.specs.Records.{recordOf, recordsOf, recordsIn}
 use Rattle.scenario.specs.RecordLaws.{record-length, records-one}
-use borrow.Author.Needs.{needs}
 use Rattle.scenario.proofs.put_line.Statement.{statement}
 use Rattle.scenario.proofs.put_line.Tie as tie
 

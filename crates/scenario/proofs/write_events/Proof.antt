@@ -5,10 +5,10 @@ use Prim.Native.Nat.{ℕ}
 use native.Mathlib.Omega.{arith}
 use borrow.Author.Tests.{lt-ltb, le-ltb, eq-eqb, ne-eqb}
 use lib.ListN.{length}
+use borrow.Author.Needs.{needs}
 use Rattle.scenario.specs.Text.{linesOf, firstBad, eventsOf, tells, badAt, meaningOf}
 use Rattle.scenario.specs.Records.{recordsOf, writtenOf, bufferOf}
 use Rattle.scenario.specs.RecordLaws.{records-length}
-use borrow.Author.Needs.{needs}
 use Rattle.scenario.proofs.write_events.Statement.{statement}
 use Rattle.scenario.proofs.write_events.Tie as tie
 

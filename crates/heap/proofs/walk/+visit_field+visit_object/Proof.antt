@@ -5,6 +5,8 @@ use Prim.Native.Nat.{ℕ, suc, _+_, _*_, _-_, _<_}
 use native.Mathlib.Omega.{arith}
 use borrow.Author.Needs.{needs}
 use borrow.Author.Tests.{eq-eqb, ne-eqb}
+use borrow.Fn.Kinds.{In}
+use borrow.Fn.PlainCycle.{Measures, is, falls, and}
 use Rattle.terms.specs.Counted.{listFrom}
 use Rattle.terms.specs.CountedLaws.{listFrom-first, listFrom-none}
 use Rattle.terms.specs.Limits.{NODES, FIELDS, owner}
@@ -12,8 +14,6 @@ use Rattle.heap.specs.Heap.{fieldAt}
 use Rattle.heap.specs.Walk.{Within, Marks, ownedBy}
 use Rattle.heap.specs.Reached.{left, left-le, left-set}
 use Rattle.heap.specs.Visit.{visited-none, visited-outside, visited-again, visited-then, visited-enter}
-use borrow.Fn.Kinds.{In}
-use borrow.Fn.PlainCycle.{Measures, is, falls, and}
 use Rattle.heap.proofs.walk.visit_field.Reads as visit-field
 use Rattle.heap.proofs.walk.visit_field.Kinds as visit-field-kinds
 use Rattle.heap.proofs.walk.+visit_field+visit_object.Lts-visit_field as visit-field-lts

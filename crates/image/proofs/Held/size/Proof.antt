@@ -1,6 +1,6 @@
 -- `image::Held::size` goes by what is told. Assumes nothing.
-use Rattle.image.specs.Find.{sizeOf}
 use borrow.Author.Needs.{needs}
+use Rattle.image.specs.Find.{sizeOf}
 use Rattle.image.proofs.Held.size.Statement.{statement}
 use Rattle.image.proofs.Held.size.Tie as tie
 

@@ -2,10 +2,10 @@
 use mathlib.Core.Path.{sym, ap}
 use mathlib.Core.List.{List}
 use Prim.Native.Nat.{ℕ}
+use borrow.Author.Needs.{needs}
 use Rattle.table.specs.declared.Place.{Place}
 use Rattle.image.specs.Content.{decrementMessage}
 use Rattle.reader.proofs.Places.{decrement-numbers}
-use borrow.Author.Needs.{needs}
 use Rattle.reader.proofs.contents.decrement_in.Statement.{statement}
 use Rattle.reader.proofs.contents.decrement_in.Tie as tie
 

@@ -1,8 +1,8 @@
 -- `reader::contents::directory_in` reads the numbers of a directory. Assumes nothing.
 use mathlib.Core.Path.{sym, ap}
+use borrow.Author.Needs.{needs}
 use Rattle.image.specs.Content.{directoryEntry}
 use Rattle.reader.proofs.Places.{directory-numbers}
-use borrow.Author.Needs.{needs}
 use Rattle.reader.proofs.contents.directory_in.Statement.{statement}
 use Rattle.reader.proofs.contents.directory_in.Tie as tie
 

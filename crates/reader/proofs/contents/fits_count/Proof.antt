@@ -1,6 +1,6 @@
 -- `reader::contents::fits_count` tests the event count. Assumes nothing.
-use Rattle.image.specs.Content.{fitsRecord}
 use borrow.Author.Needs.{needs}
+use Rattle.image.specs.Content.{fitsRecord}
 use Rattle.reader.proofs.contents.fits_count.Statement.{statement}
 use Rattle.reader.proofs.contents.fits_count.Tie as tie
 

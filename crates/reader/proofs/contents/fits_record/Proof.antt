@@ -1,6 +1,6 @@
 -- `reader::contents::fits_record` asks the test of the kind. Assumes nothing.
-use Rattle.image.specs.Content.{fitsRecord}
 use borrow.Author.Needs.{needs}
+use Rattle.image.specs.Content.{fitsRecord}
 use Rattle.reader.proofs.contents.fits_record.Statement.{statement}
 use Rattle.reader.proofs.contents.fits_record.Tie as tie
 

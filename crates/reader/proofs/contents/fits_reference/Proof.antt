@@ -1,8 +1,8 @@
 -- `reader::contents::fits_reference` tests the number in front, and what the record holds. Assumes nothing.
 use borrow.Author.Tests.{le-ltb, lt-ltb}
+use borrow.Author.Needs.{needs}
 use Rattle.image.specs.Content.{fitsRecord}
 use Rattle.reader.proofs.Places.{byte-at}
-use borrow.Author.Needs.{needs}
 use Rattle.reader.proofs.contents.fits_reference.Statement.{statement}
 use Rattle.reader.proofs.contents.fits_reference.Tie as tie
 

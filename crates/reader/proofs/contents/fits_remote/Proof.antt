@@ -1,8 +1,8 @@
 -- `reader::contents::fits_remote` tests node, object and Presence, and what the record holds. Assumes nothing.
 use borrow.Author.Tests.{le-ltb, lt-ltb, le-leb, lt-leb}
+use borrow.Author.Needs.{needs}
 use Rattle.image.specs.Content.{fitsRecord}
 use Rattle.reader.proofs.Places.{remote-node, remote-object, remote-presence}
-use borrow.Author.Needs.{needs}
 use Rattle.reader.proofs.contents.fits_remote.Statement.{statement}
 use Rattle.reader.proofs.contents.fits_remote.Tie as tie
 

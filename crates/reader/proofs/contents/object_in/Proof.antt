@@ -1,8 +1,8 @@
 -- `reader::contents::object_in` reads the four fields. Assumes nothing.
 use mathlib.Core.Path.{sym, ap}
+use borrow.Author.Needs.{needs}
 use Rattle.image.specs.Content.{liveObject}
 use Rattle.reader.proofs.Places.{live-numbers}
-use borrow.Author.Needs.{needs}
 use Rattle.reader.proofs.contents.object_in.Statement.{statement}
 use Rattle.reader.proofs.contents.object_in.Tie as tie
 

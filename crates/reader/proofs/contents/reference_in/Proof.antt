@@ -2,10 +2,10 @@
 use mathlib.Core.Path.{sym, ap}
 use mathlib.Core.List.{List}
 use Prim.Native.Nat.{ℕ}
+use borrow.Author.Needs.{needs}
 use Rattle.image.specs.Content.{referenceMessage}
 use Rattle.reader.proofs.Places.{reference-numbers}
 use Rattle.table.specs.declared.Place.{Place}
-use borrow.Author.Needs.{needs}
 use Rattle.reader.proofs.contents.reference_in.Statement.{statement}
 use Rattle.reader.proofs.contents.reference_in.Tie as tie
 

@@ -1,8 +1,8 @@
 -- `reader::contents::remote_in` reads the numbers of a remote entry. Assumes nothing.
 use mathlib.Core.Path.{sym, ap}
+use borrow.Author.Needs.{needs}
 use Rattle.image.specs.Content.{remoteEntry}
 use Rattle.reader.proofs.Places.{remote-numbers}
-use borrow.Author.Needs.{needs}
 use Rattle.reader.proofs.contents.remote_in.Statement.{statement}
 use Rattle.reader.proofs.contents.remote_in.Tie as tie
 

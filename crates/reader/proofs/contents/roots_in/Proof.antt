@@ -1,8 +1,8 @@
 -- `reader::contents::roots_in` reads the eight roots. Assumes nothing.
 use mathlib.Core.Path.{sym, ap}
+use borrow.Author.Needs.{needs}
 use Rattle.image.specs.Content.{rootsOfNode}
 use Rattle.reader.proofs.Places.{roots-numbers}
-use borrow.Author.Needs.{needs}
 use Rattle.reader.proofs.contents.roots_in.Statement.{statement}
 use Rattle.reader.proofs.contents.roots_in.Tie as tie
 

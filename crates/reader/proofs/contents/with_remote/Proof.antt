@@ -1,6 +1,6 @@
 -- `reader::contents::with_remote` puts the entry into the cell. Assumes nothing.
-use Rattle.reader.proofs.Places.{byte-at}
 use borrow.Author.Needs.{needs}
+use Rattle.reader.proofs.Places.{byte-at}
 use Rattle.reader.proofs.contents.with_remote.Statement.{statement}
 use Rattle.reader.proofs.contents.with_remote.Tie as tie
 

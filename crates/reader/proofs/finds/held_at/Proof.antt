@@ -3,6 +3,7 @@ use mathlib.Core.Path.{_≡_, sym, ap, _∙_}
 use mathlib.Core.List.{List}
 use Prim.Native.Nat.{ℕ, _+_, _-_, _≤_}
 use lib.ListN.{length, take, drop}
+use borrow.Author.Needs.{needs}
 use Rattle.image.specs.declared.Frame.the-variants.{Whole}
 use Rattle.image.specs.declared.RecordKind.{RecordKind}
 use Rattle.image.specs.declared.Spot.{Spot}
@@ -14,7 +15,6 @@ use Rattle.image.specs.Records.{HEAD, lengthOf}
 use Rattle.reader.proofs.Fronting.{whole-long}
 use Rattle.reader.proofs.Reading.{rest-is}
 use Rattle.reader.proofs.Telling.{no-record, refused, elsewhere, told}
-use borrow.Author.Needs.{needs}
 use Rattle.reader.proofs.finds.held_at.Statement.{statement}
 use Rattle.reader.proofs.finds.held_at.Tie as tie
 

@@ -1,8 +1,8 @@
 -- `reader::frames::frame_of` tries the four refusals of a frame in their order. Assumes nothing.
 use mathlib.Core.Path.{sym, ap, _∙_}
+use borrow.Author.Needs.{needs}
 use Rattle.image.specs.Records.{kindOfCode}
 use Rattle.reader.proofs.Layers.{no-head, no-kind, other-length, cut, whole}
-use borrow.Author.Needs.{needs}
 use Rattle.reader.proofs.frames.frame_of.Statement.{statement}
 use Rattle.reader.proofs.frames.frame_of.Tie as tie
 

@@ -1,7 +1,7 @@
 -- `reader::fronts::front_of` goes on where the frame is in order. Assumes nothing.
 use mathlib.Core.Path.{sym, _∙_}
-use Rattle.reader.proofs.Fronting.{whole-long}
 use borrow.Author.Needs.{needs}
+use Rattle.reader.proofs.Fronting.{whole-long}
 use Rattle.reader.proofs.fronts.front_of.Statement.{statement}
 use Rattle.reader.proofs.fronts.front_of.Tie as tie
 

@@ -2,9 +2,9 @@
 use mathlib.Core.Path.{sym, ap, _∙_}
 use Prim.Native.Nat.{ℕ}
 use borrow.Author.Tests.{not-true, not-false}
+use borrow.Author.Needs.{needs}
 use Rattle.image.specs.declared.Spot.{Spot}
 use Rattle.reader.proofs.Layers.{too-early, too-late, no-value, trailed, taken}
-use borrow.Author.Needs.{needs}
 use Rattle.reader.proofs.fronts.whole_of.Statement.{statement}
 use Rattle.reader.proofs.fronts.whole_of.Tie as tie
 

@@ -1,8 +1,8 @@
 -- `reader::numbers::count_of` goes by the highest bit. Assumes nothing.
 use mathlib.Core.Path.{ap}
+use borrow.Author.Needs.{needs}
 use Rattle.entry.specs.Entry.{returns as returned}
 use Rattle.reader.proofs.Signs.{natural-count, less-fits, below-count}
-use borrow.Author.Needs.{needs}
 use Rattle.reader.proofs.numbers.count_of.Statement.{statement}
 use Rattle.reader.proofs.numbers.count_of.Tie as tie
 

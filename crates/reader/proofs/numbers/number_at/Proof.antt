@@ -1,7 +1,7 @@
 -- `reader::numbers::number_at` makes the number of its four bytes. Assumes nothing.
 use mathlib.Core.Path.{sym, _∙_}
-use Rattle.reader.proofs.Places.{quad-at}
 use borrow.Author.Needs.{needs}
+use Rattle.reader.proofs.Places.{quad-at}
 use Rattle.reader.proofs.numbers.number_at.Statement.{statement}
 use Rattle.reader.proofs.numbers.number_at.Tie as tie
 

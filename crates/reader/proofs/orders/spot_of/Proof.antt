@@ -1,7 +1,7 @@
 -- `reader::orders::spot_of` finds the spot of each kind. Assumes nothing.
 use native.Mathlib.Omega.{arith}
-use Rattle.reader.proofs.Places.{byte-at, remote-spot}
 use borrow.Author.Needs.{needs}
+use Rattle.reader.proofs.Places.{byte-at, remote-spot}
 use Rattle.reader.proofs.orders.spot_of.Statement.{statement}
 use Rattle.reader.proofs.orders.spot_of.Tie as tie
 

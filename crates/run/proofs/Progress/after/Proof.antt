@@ -1,7 +1,7 @@
 -- `run::Progress::after` counts a record and its deed. Assumes nothing.
 use native.Mathlib.Omega.{arith}
-use Rattle.run.proofs.Counting.{one-decrement}
 use borrow.Author.Needs.{needs}
+use Rattle.run.proofs.Counting.{one-decrement}
 use Rattle.run.proofs.Progress.after.Statement.{statement}
 use Rattle.run.proofs.Progress.after.Tie as tie
 

@@ -1,10 +1,10 @@
 -- `run::line::put_ending` writes what ends a run; a summary's numbers are short enough that it fits. Assumes nothing.
 use native.Mathlib.Omega.{arith}
+use borrow.Author.Needs.{needs}
 use Rattle.run.specs.Buffer.{Room}
 use Rattle.run.specs.Run.{ending}
 use Rattle.run.proofs.Lengths.{ending-most}
 use Rattle.run.proofs.Written.{room-front, room-rest, wrote-both}
-use borrow.Author.Needs.{needs}
 use Rattle.run.proofs.line.put_ending.Statement.{statement}
 use Rattle.run.proofs.line.put_ending.Tie as tie
 

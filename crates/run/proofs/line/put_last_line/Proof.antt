@@ -1,7 +1,7 @@
 -- `run::line::put_last_line` writes the last line, a part at a time. Assumes nothing.
+use borrow.Author.Needs.{needs}
 use Rattle.run.specs.Run.{lastLine}
 use Rattle.run.proofs.Written.{room-front, wrote-length, After, all-left, less-left, going}
-use borrow.Author.Needs.{needs}
 use Rattle.run.proofs.line.put_last_line.Statement.{statement}
 use Rattle.run.proofs.line.put_last_line.Tie as tie
 

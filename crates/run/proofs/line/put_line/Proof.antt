@@ -2,12 +2,12 @@
 use Prim.Native.Nat.{_+_, _≤_}
 use native.Mathlib.Omega.{arith}
 use lib.ListN.{length}
+use borrow.Author.Needs.{needs}
 use Rattle.run.specs.Buffer.{Room, Wrote}
 use Rattle.run.specs.Ran.{LINE}
 use Rattle.run.specs.Run.{line}
 use Rattle.run.proofs.Lengths.{line-most}
 use Rattle.run.proofs.Written.{room-front, wrote-length, Going, After, less-left, going}
-use borrow.Author.Needs.{needs}
 use Rattle.run.proofs.line.put_line.Statement.{statement}
 use Rattle.run.proofs.line.put_line.Tie as tie
 

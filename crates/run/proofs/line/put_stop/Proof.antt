@@ -1,6 +1,6 @@
 -- `run::line::put_stop` writes `stop` where something stands that is not taken. Assumes nothing.
-use Rattle.run.proofs.Written.{wrote-nothing}
 use borrow.Author.Needs.{needs}
+use Rattle.run.proofs.Written.{wrote-nothing}
 use Rattle.run.proofs.line.put_stop.Statement.{statement}
 use Rattle.run.proofs.line.put_stop.Tie as tie
 

@@ -1,11 +1,11 @@
 -- `run::text::put_decimal` writes the number in decimal: the recursion is that of the digits, and the number falls. Assumes nothing.
 use native.Mathlib.Omega.{arith}
 use lib.ListN.{length-set}
-use Rattle.run.proofs.Decimal.{digit-inside, last-inside, tenth-room, wrote-digit, wrote-last}
-use Rattle.run.proofs.Written.{wrote-length}
 use Prim.Native.Nat.{ℕ, _<_}
 use borrow.Fn.Kinds.{In}
 use borrow.Fn.PlainCycle.{Measures, is, falls, and}
+use Rattle.run.proofs.Decimal.{digit-inside, last-inside, tenth-room, wrote-digit, wrote-last}
+use Rattle.run.proofs.Written.{wrote-length}
 use Rattle.run.proofs.text.put_decimal.Reads as put-decimal
 use Rattle.run.proofs.text.put_decimal.Kinds as put-decimal-kinds
 use Rattle.run.proofs.text.+put_decimal.Lts-put_decimal as put-decimal-lts

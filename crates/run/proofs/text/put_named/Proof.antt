@@ -1,7 +1,7 @@
 -- `run::text::put_named` writes the name and the number. Assumes nothing.
+use borrow.Author.Needs.{needs}
 use Rattle.run.specs.Text.{decimal}
 use Rattle.run.proofs.Written.{room-front, room-rest, wrote-both}
-use borrow.Author.Needs.{needs}
 use Rattle.run.proofs.text.put_named.Statement.{statement}
 use Rattle.run.proofs.text.put_named.Tie as tie
 

@@ -1,8 +1,8 @@
 -- `scenario::lines::read_event` meets its contract: each number that is found takes the definition one number further. Assumes nothing.
 use native.Mathlib.Omega.{arith}
+use borrow.Author.Needs.{needs}
 use Rattle.scenario.specs.Line.{eventIn}
 use Rattle.scenario.proofs.ByteLaws.{bounded, Reading, unread, number-found, number-bad, end-found, end-missing}
-use borrow.Author.Needs.{needs}
 use Rattle.scenario.proofs.lines.read_event.Statement.{statement}
 use Rattle.scenario.proofs.lines.read_event.Tie as tie
 

@@ -2,9 +2,9 @@
 use mathlib.Core.Path.{sym, ap, _∙_}
 use native.Mathlib.Omega.{arith}
 use lib.Seq.{length-take-le}
+use borrow.Author.Needs.{needs}
 use Rattle.scenario.specs.Line.{bareLine, lineOf}
 use Rattle.scenario.proofs.ByteLaws.{return-none, return-last, return-other}
-use borrow.Author.Needs.{needs}
 use Rattle.scenario.proofs.lines.read_line.Statement.{statement}
 use Rattle.scenario.proofs.lines.read_line.Tie as tie
 

@@ -1,7 +1,7 @@
 -- `step::Event::is_stated` compares the first two bytes. Assumes nothing.
 use mathlib.Core.Path.{sym}
-use Rattle.step.specs.EventBytes.{states-by}
 use borrow.Author.Needs.{needs}
+use Rattle.step.specs.EventBytes.{states-by}
 use Rattle.step.proofs.Event.is_stated.Statement.{statement}
 use Rattle.step.proofs.Event.is_stated.Tie as tie
 

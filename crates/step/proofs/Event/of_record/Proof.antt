@@ -1,7 +1,7 @@
 -- `step::Event::of_record` reads the event by its bytes' places. Assumes nothing.
 use mathlib.Core.Path.{sym}
-use Rattle.step.specs.EventBytes.{event-by}
 use borrow.Author.Needs.{needs}
+use Rattle.step.specs.EventBytes.{event-by}
 use Rattle.step.proofs.Event.of_record.Statement.{statement}
 use Rattle.step.proofs.Event.of_record.Tie as tie
 

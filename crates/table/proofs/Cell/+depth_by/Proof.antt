@@ -4,6 +4,8 @@ use mathlib.Core.List.{[], _∷_}
 use Prim.Native.Nat.{ℕ, _-_, _<_}
 use native.Mathlib.Omega.{arith}
 use borrow.Author.Needs.{needs}
+use borrow.Fn.Kinds.{In}
+use borrow.Fn.PlainCycle.{Measures, is, falls, and}
 use Rattle.entry.specs.declared.Entry.{Entry}
 use Rattle.heap.specs.Heap.{freshHeap}
 use Rattle.table.specs.declared.Cell.{Cell}
@@ -11,8 +13,6 @@ use Rattle.table.specs.declared.Table.{Table}
 use Rattle.table.specs.Table.{cellAt, entryIn, entryAt}
 use Rattle.table.specs.Depth.{further}
 use Rattle.table.specs.DepthLaws.{depthBy-absent, depthBy-owner, depthBy-last, depthBy-onward, depthBy-bound}
-use borrow.Fn.Kinds.{In}
-use borrow.Fn.PlainCycle.{Measures, is, falls, and}
 use Rattle.table.proofs.Cell.depth_by.Reads as depth-by
 use Rattle.table.proofs.Cell.depth_by.Kinds as depth-by-kinds
 use Rattle.table.proofs.Cell.+depth_by.Lts-depth_by as depth-by-lts

@@ -1,6 +1,6 @@
 -- `writer::entry_records::put_directory` puts a directory's record, by the sort of entry. Assumes nothing.
-use Rattle.image.specs.StoredLaws.{put-none}
 use borrow.Author.Needs.{needs}
+use Rattle.image.specs.StoredLaws.{put-none}
 use Rattle.writer.proofs.entry_records.put_directory.Statement.{statement}
 use Rattle.writer.proofs.entry_records.put_directory.Tie as tie
 

@@ -1,7 +1,7 @@
 -- `writer::entry_records::put_elsewhere` puts the record of an entry that isn't the owner's. Assumes nothing.
 use native.Mathlib.Omega.{arith}
-use Rattle.image.specs.Writer.{bytesOfAll}
 use borrow.Author.Needs.{needs}
+use Rattle.image.specs.Writer.{bytesOfAll}
 use Rattle.writer.proofs.Behind.{_then_, whole}
 use Rattle.writer.proofs.entry_records.put_elsewhere.Statement.{statement}
 use Rattle.writer.proofs.entry_records.put_elsewhere.Tie as tie

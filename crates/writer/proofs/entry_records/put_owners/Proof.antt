@@ -1,7 +1,7 @@
 -- `writer::entry_records::put_owners` puts the record of a directory. Assumes nothing.
 use native.Mathlib.Omega.{arith}
-use Rattle.image.specs.Writer.{bytesOfAll}
 use borrow.Author.Needs.{needs}
+use Rattle.image.specs.Writer.{bytesOfAll}
 use Rattle.writer.proofs.Behind.{_then_, whole}
 use Rattle.writer.proofs.entry_records.put_owners.Statement.{statement}
 use Rattle.writer.proofs.entry_records.put_owners.Tie as tie

@@ -1,9 +1,9 @@
 -- `writer::heap_records::put_object` puts the record of an object, if it is live. Assumes nothing.
 use native.Mathlib.Omega.{arith}
 use borrow.Author.Tests.{not-true, not-false}
+use borrow.Author.Needs.{needs}
 use Rattle.image.specs.StoredLaws.{put-none}
 use Rattle.image.specs.Writer.{bytesOfAll}
-use borrow.Author.Needs.{needs}
 use Rattle.writer.proofs.Behind.{_then_, whole}
 use Rattle.writer.proofs.heap_records.put_object.Statement.{statement}
 use Rattle.writer.proofs.heap_records.put_object.Tie as tie

@@ -1,7 +1,7 @@
 -- `writer::heap_records::put_roots` puts the record of a node's roots. Assumes nothing.
 use native.Mathlib.Omega.{arith}
-use Rattle.image.specs.Writer.{bytesOfAll}
 use borrow.Author.Needs.{needs}
+use Rattle.image.specs.Writer.{bytesOfAll}
 use Rattle.writer.proofs.Behind.{_then_, whole}
 use Rattle.writer.proofs.heap_records.put_roots.Statement.{statement}
 use Rattle.writer.proofs.heap_records.put_roots.Tie as tie

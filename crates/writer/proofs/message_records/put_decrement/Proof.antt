@@ -1,7 +1,7 @@
 -- `writer::message_records::put_decrement` puts the record of a decrement in the air. Assumes nothing.
 use native.Mathlib.Omega.{arith}
-use Rattle.image.specs.Writer.{bytesOfAll}
 use borrow.Author.Needs.{needs}
+use Rattle.image.specs.Writer.{bytesOfAll}
 use Rattle.writer.proofs.Behind.{_then_, whole}
 use Rattle.writer.proofs.message_records.put_decrement.Statement.{statement}
 use Rattle.writer.proofs.message_records.put_decrement.Tie as tie

@@ -1,6 +1,6 @@
 -- `writer::message_records::put_message` puts a message's record, by the sort of message. Assumes nothing.
-use Rattle.image.specs.StoredLaws.{put-none}
 use borrow.Author.Needs.{needs}
+use Rattle.image.specs.StoredLaws.{put-none}
 use Rattle.writer.proofs.message_records.put_message.Statement.{statement}
 use Rattle.writer.proofs.message_records.put_message.Tie as tie
 

@@ -1,8 +1,8 @@
 -- `writer::record_bytes::count_record` makes the event count's record: its four bytes. Assumes nothing.
 use mathlib.Core.Path.{refl}
 use native.Mathlib.Omega.{arith}
-use Rattle.image.specs.Writer.{bytesOfAll}
 use borrow.Author.Needs.{needs}
+use Rattle.image.specs.Writer.{bytesOfAll}
 use Rattle.writer.proofs.record_bytes.count_record.Statement.{statement}
 use Rattle.writer.proofs.record_bytes.count_record.Tie as tie
 

@@ -1,8 +1,8 @@
 -- `writer::record_bytes::decrement_record` makes the record of a decrement. Assumes nothing.
 use mathlib.Core.Path.{refl}
 use native.Mathlib.Omega.{arith}
-use Rattle.image.specs.Writer.{bytesOfAll}
 use borrow.Author.Needs.{needs}
+use Rattle.image.specs.Writer.{bytesOfAll}
 use Rattle.writer.proofs.OneByte.{byte}
 use Rattle.writer.proofs.record_bytes.decrement_record.Statement.{statement}
 use Rattle.writer.proofs.record_bytes.decrement_record.Tie as tie

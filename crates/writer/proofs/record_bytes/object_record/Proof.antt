@@ -2,8 +2,8 @@
 use mathlib.Core.Path.{refl}
 use native.Mathlib.Omega.{arith}
 use borrow.Author.Tests.{not-true, not-false}
-use Rattle.image.specs.Writer.{bytesOfAll}
 use borrow.Author.Needs.{needs}
+use Rattle.image.specs.Writer.{bytesOfAll}
 use Rattle.writer.proofs.OneByte.{byte}
 use Rattle.writer.proofs.record_bytes.object_record.Statement.{statement}
 use Rattle.writer.proofs.record_bytes.object_record.Tie as tie

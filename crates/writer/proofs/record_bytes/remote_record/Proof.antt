@@ -1,9 +1,9 @@
 -- `writer::record_bytes::remote_record` makes the record of an entry that isn't the owner's. Assumes nothing.
 use mathlib.Core.Path.{refl}
 use native.Mathlib.Omega.{arith}
+use borrow.Author.Needs.{needs}
 use Rattle.image.specs.Writer.{bytesOfAll}
 use Rattle.terms.specs.Counted.{one}
-use borrow.Author.Needs.{needs}
 use Rattle.writer.proofs.OneByte.{byte}
 use Rattle.writer.proofs.record_bytes.remote_record.Statement.{statement}
 use Rattle.writer.proofs.record_bytes.remote_record.Tie as tie

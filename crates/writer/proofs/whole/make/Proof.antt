@@ -1,7 +1,7 @@
 -- `writer::whole::make` makes the image at the front of the buffer. Assumes nothing.
+use borrow.Author.Needs.{needs}
 use Rattle.image.specs.StoredLaws.{stored-both}
 use Rattle.writer.proofs.InOrder.{made-is}
-use borrow.Author.Needs.{needs}
 use Rattle.writer.proofs.whole.make.Statement.{statement}
 use Rattle.writer.proofs.whole.make.Tie as tie
 

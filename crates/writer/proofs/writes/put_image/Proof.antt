@@ -6,10 +6,10 @@ use native.Mathlib.Omega.{arith}
 use borrow.Author.Tests.{lt-ltb, le-ltb}
 use lib.ListN.{length, length-replicate}
 use lib.Seq.{length-take-le}
+use borrow.Author.Needs.{needs}
 use Rattle.terms.specs.Bytes.{over}
 use Rattle.image.specs.Stored.{FULL}
 use Rattle.image.specs.Writer.{image, putAnswer, putLength, putBytes}
-use borrow.Author.Needs.{needs}
 use Rattle.writer.proofs.writes.put_image.Statement.{statement}
 use Rattle.writer.proofs.writes.put_image.Tie as tie
 
