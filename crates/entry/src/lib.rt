@@ -1,26 +1,28 @@
 // An entry of the field table: what one node knows of one object. At the owner it is a directory, elsewhere a remote entry.
+#![tactic(auto)]
+
 mod at_node; // at_node.rt: the acts on whatever stands for an object
 mod at_owner; // at_owner.rt: the acts on a directory
 mod elsewhere; // elsewhere.rt: the acts on a remote entry
 mod returns; // returns.rt: return counts and weights
 
 // References sent home less those that came home, so a directory's may be below zero.
-#[derive(Drop)]
+#[derive(Clone, Copy)]
 pub struct ReturnCount(pub i32);
 
 // How many references of its Parent's count an entry or a decrement stands for.
-#[derive(Drop)]
+#[derive(Clone, Copy)]
 pub struct Weight(pub u32);
 
 // The owner's entry.
-#[derive(Drop)]
+#[derive(Clone, Copy)]
 pub struct Directory {
     pub rc: u32,
     pub msg_ctr: ReturnCount,
 }
 
 // Any other node's entry.
-#[derive(Drop)]
+#[derive(Clone, Copy)]
 pub struct Remote {
     pub rc: u32,
     pub parent: u8,
@@ -30,7 +32,7 @@ pub struct Remote {
 }
 
 // At most one entry stands for a node and an object. Where none stands there are no numbers either.
-#[derive(Drop)]
+#[derive(Clone, Copy)]
 pub enum Entry {
     Absent,
     AtOwner(Directory),
@@ -38,19 +40,19 @@ pub enum Entry {
 }
 
 // What an act hands back: a refusal number, 0 if there is none, and the entry, unchanged if refused.
-#[derive(Drop)]
+#[derive(Clone, Copy)]
 pub struct DirectoryAct {
     pub refusal: u8,
     pub entry: Directory,
 }
 
-#[derive(Drop)]
+#[derive(Clone, Copy)]
 pub struct RemoteAct {
     pub refusal: u8,
     pub entry: Remote,
 }
 
-#[derive(Drop)]
+#[derive(Clone, Copy)]
 pub struct EntryAct {
     pub refusal: u8,
     pub entry: Entry,

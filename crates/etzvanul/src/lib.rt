@@ -1,6 +1,8 @@
 // The calls that the controller's host makes, in C: byte slices in, one number back, nothing kept between calls. What each call comes to stands
 // in specs/HostCall.antt; include/etzvanul.h tells a C programmer the same. No call makes a table of the image: it is asked, and changed, where
 // it lies.
+#![tactic(auto)]
+
 mod amends; // amends.rt: what an event comes to on an accepted image, and the new image
 mod depths; // depths.rt: how far the owner of an object is from a node
 mod puts; // puts.rt: the new image, and how long it is
@@ -18,7 +20,7 @@ use table::Table;
 use writer::put_image;
 
 // How far the copying of an image is: what is passed of the old one, and what stands of the new one.
-#[derive(Drop)]
+#[derive(Clone, Copy)]
 pub struct Cursor {
     pub from: usize,
     pub to: usize,

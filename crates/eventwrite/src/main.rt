@@ -1,5 +1,7 @@
 // Turns a scenario on standard input, one event a line, into event records on standard output. A bad line is refused with its number, on
 // standard error, and nothing is written to standard output.
+#![tactic(auto)]
+
 use libc::{STDERR_FILENO, STDIN_FILENO, STDOUT_FILENO};
 use scenario::Written;
 

@@ -1,4 +1,6 @@
 // Event records from standard input, the run that they make to standard output. All that decides anything is `run::run`.
+#![tactic(auto)]
+
 use libc::{STDIN_FILENO, STDOUT_FILENO};
 
 // 4,096 event records of eight bytes, and one byte more, by which a 4,097th is seen.

@@ -1,4 +1,6 @@
 // What the controllers hold: objects with their fields, and roots. Nothing here counts references.
+#![tactic(auto)]
+
 mod walk; // walk.rt: what is reached, and what is held
 
 ghost use Rattle.std.specs.Prelude.{◌≡◌, get_or, length};
@@ -8,26 +10,26 @@ ghost use Rattle.heap.specs.Heap.{idle, born, fresh_heap, object_at, is_live, fi
 ghost use Rattle.heap.specs.Heap.{with_root_in, with_field_in};
 ghost use Rattle.heap.specs.Heap.{fits_name, fits_field, fits_object, fits_roots, fits_heap};
 
-#[derive(Drop)]
+#[derive(Clone, Copy)]
 pub struct Object {
     pub live: bool,
     pub fields: [u8; 4],
 }
 
 // The roots of one node.
-#[derive(Drop)]
+#[derive(Clone, Copy)]
 pub struct Roots {
     pub at: [u8; 8],
 }
 
-#[derive(Drop)]
+#[derive(Clone, Copy)]
 pub struct Heap {
     pub objects: [Object; 64],
     pub roots: [Roots; 8],
 }
 
 // For each object, whether it is marked.
-#[derive(Drop)]
+#[derive(Clone, Copy)]
 pub struct Marks {
     pub seen: [bool; 64],
 }

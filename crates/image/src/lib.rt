@@ -1,25 +1,27 @@
 // The saved image of a table: the types that its definitions, in specs/, and its reader and writer, two crates above this one, speak of.
+#![tactic(auto)]
+
 mod told; // told.rt: what a record tells, taken apart
 
 use entry::Entry;
 use table::{Message, Table};
 
 // The answer is 0 or the refusal's number; refused, the table is the fresh one.
-#[derive(Drop)]
+#[derive(Clone, Copy)]
 pub struct Loaded {
     pub answer: u8,
     pub table: Table,
 }
 
 // The answer is 0 or the refusal's number; refused, the length is 0.
-#[derive(Drop)]
+#[derive(Clone, Copy)]
 pub struct Written {
     pub answer: u8,
     pub length: usize,
 }
 
 // An object, its fields one by one: an enum holds no array.
-#[derive(Drop)]
+#[derive(Clone, Copy)]
 pub struct ObjectParts {
     pub live: bool,
     pub f0: u8,
@@ -29,7 +31,7 @@ pub struct ObjectParts {
 }
 
 // The roots of a node, one by one.
-#[derive(Drop)]
+#[derive(Clone, Copy)]
 pub struct RootParts {
     pub r0: u8,
     pub r1: u8,
@@ -42,7 +44,7 @@ pub struct RootParts {
 }
 
 // What a record tells of the field.
-#[derive(Drop)]
+#[derive(Clone, Copy)]
 pub enum Held {
     Nothing,
     Count(u32),
@@ -54,7 +56,7 @@ pub enum Held {
 
 // What stands at a position of the image order: from where to where in the bytes, and what it tells. Where nothing stands, from and to are
 // the place where it would.
-#[derive(Drop)]
+#[derive(Clone, Copy)]
 pub struct Found {
     pub at: usize,
     pub after: usize,
@@ -62,14 +64,14 @@ pub struct Found {
 }
 
 // The bytes of one record, and how many of them count.
-#[derive(Drop)]
+#[derive(Clone, Copy)]
 pub struct RecordBytes {
     pub bytes: [u8; 20],
     pub length: usize,
 }
 
 // The kinds of record.
-#[derive(Drop)]
+#[derive(Clone, Copy)]
 pub enum RecordKind {
     Count,
     Live,
@@ -83,21 +85,21 @@ pub enum RecordKind {
 }
 
 // The records that may come next: from one position of the image order up to another, both included.
-#[derive(Drop)]
+#[derive(Clone, Copy)]
 pub struct Turn {
     pub first: u32,
     pub last: u32,
 }
 
 // What is known of a record by its frame: a refusal's number, or its kind.
-#[derive(Drop)]
+#[derive(Clone, Copy)]
 pub enum Frame {
     Refused(u8),
     Whole(RecordKind),
 }
 
 // Where a record stands in the image order, the number of the thing that it is about, and what may come after it.
-#[derive(Drop)]
+#[derive(Clone, Copy)]
 pub struct Spot {
     pub at: u32,
     pub key: usize,
@@ -106,7 +108,7 @@ pub struct Spot {
 
 // The record at the front of the bytes: 0 and its kind, or the refusal's number and no kind; the number of the thing that it is about, what
 // may come after it, and how many bytes it has.
-#[derive(Drop)]
+#[derive(Clone, Copy)]
 pub struct Front {
     pub answer: u8,
     pub kind: RecordKind,

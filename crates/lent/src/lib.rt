@@ -1,4 +1,6 @@
 // Settling on a single entry that is lent, amended where it stands. What decides is by value; the lent entry is only read and stored back.
+#![tactic(auto)]
+
 ghost use Rattle.std.specs.Prelude.{◌≡◌};
 ghost use Rattle.lent.specs.Lent.{fits_alone, fits_decrement, lent};
 

@@ -1,6 +1,8 @@
 // Runs outside cases: each settles a decrement on an entry that is lent, and is compared with what must come of it.
 // A case is the entry, the entry after it, m, n and the number that must come back. An entry is its sort (1 a directory, 2 a remote entry),
 // Parent, Presence, a byte that is not used, RC, MsgCtr, RefWeight. Numbers are little-endian, return counts in two's complement.
+#![tactic(auto)]
+
 ghost use Rattle.std.specs.Prelude.{◌≡◌, ◌+◌, ◌≤◌};
 ghost use Rattle.lent.specs.Lent.{lent};
 

@@ -1,5 +1,7 @@
 // Tables 4 to 6 of document 000, section 4.6: a tree of seven nodes, as the paper draws it, and three operations on it. Each line has an
 // event's number in the paper and what it changes, before and after.
+#![tactic(auto)]
+
 use entry::{Entry, ReturnCount};
 use libc::STDOUT_FILENO;
 use step::Event;

@@ -1,5 +1,7 @@
 // What an event comes to on an image, asked where it lies: no table is made of it, and nothing is changed yet. Any bytes are taken; on an accepted
 // image a plan is what the event's rule does on the table that the image tells of (specs/Plans.antt, specs/SweepLaws.antt).
+#![tactic(auto)]
+
 mod changes; // changes.rt: the parts that a plan is made of
 mod heap_plans; // heap_plans.rt: what NEW, MOVE, CLEAR, LOAD and STORE come to
 mod lookups; // lookups.rt: what an image tells, looked for from a place on
@@ -16,7 +18,7 @@ pub use sweeps::sweep_of;
 
 // A part of the image replaced by another record: from where to where in the bytes, and what is to stand there of object, node or place a, or
 // of object b at node a. Or nothing replaced.
-#[derive(Drop)]
+#[derive(Clone, Copy)]
 pub enum Change {
     Same,
     To {
@@ -30,7 +32,7 @@ pub enum Change {
 
 // What an event comes to on an image: the answer and the deed as they are of the table, and the changes besides the event count, in the order
 // of the image. Refused, nothing changes.
-#[derive(Drop)]
+#[derive(Clone, Copy)]
 pub struct Plan {
     pub answer: u8,
     pub deed: Deed,
@@ -41,7 +43,7 @@ pub struct Plan {
 }
 
 // The lowest place in the air without a message, or how many places there are, and what stands there in the bytes.
-#[derive(Drop)]
+#[derive(Clone, Copy)]
 pub struct EmptyPlace {
     pub s: u8,
     pub spot: Found,
@@ -49,7 +51,7 @@ pub struct EmptyPlace {
 
 // What COLLECT comes to on an image: the answer, how many objects are reclaimed, which they are, and for which objects of other nodes the
 // entry is no longer used. Refused, nothing changes.
-#[derive(Drop)]
+#[derive(Clone, Copy)]
 pub struct Sweep {
     pub answer: u8,
     pub reclaimed: u32,

@@ -1,4 +1,6 @@
 // The saved image read: into a table, checked where it lies, and asked for what stands at one position. What is read stands in image's specs/.
+#![tactic(auto)]
+
 mod checks; // checks.rt: an image checked where it lies
 mod contents; // contents.rt: what the records hold
 mod finds; // finds.rt: what stands at a position of the image order

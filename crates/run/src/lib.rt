@@ -1,4 +1,6 @@
 // A run of event records from the fresh state, and the text that tells of it.
+#![tactic(auto)]
+
 ghost use Rattle.std.specs.Prelude.{◌≡◌, ◌+◌, ◌≤◌, length};
 ghost use Rattle.run.specs.Buffer.{Wrote};
 ghost use Rattle.run.specs.Ran.{ENDING, TEXT, Ended, told, ran, run_bytes};
@@ -24,7 +26,7 @@ const ACCEPTED: u8 = 0;
 const ROOM: u8 = 26;
 
 // What stands at the front of the records that are left.
-#[derive(Drop)]
+#[derive(Clone, Copy)]
 pub enum Next {
     // nothing: the run ends
     Nothing,
@@ -34,7 +36,7 @@ pub enum Next {
 }
 
 // How far a run has come: its table, its records so far, and the decrements sent and saved by them.
-#[derive(Drop)]
+#[derive(Clone, Copy)]
 pub struct Progress {
     pub table: Table,
     pub records: u32,
@@ -43,7 +45,7 @@ pub struct Progress {
 }
 
 // Accepted events, live objects, entries of both sorts, messages of both sorts, decrements sent, decrements saved.
-#[derive(Drop)]
+#[derive(Clone, Copy)]
 pub struct Summary {
     pub events: u32,
     pub live: u32,
@@ -54,7 +56,7 @@ pub struct Summary {
 }
 
 // What comes back of a run: 0 or the refusal's number, the bytes of its text, and its summary.
-#[derive(Drop)]
+#[derive(Clone, Copy)]
 pub struct Ran {
     pub answer: u8,
     pub length: usize,

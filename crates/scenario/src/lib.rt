@@ -1,4 +1,6 @@
 // Event scenarios as a person writes them, one event a line, turned into event records. What a line and a text mean stands in specs/.
+#![tactic(auto)]
+
 mod lines;
 mod numbers;
 
@@ -13,7 +15,7 @@ use lines::read_line;
 use step::Event;
 
 // What a line means.
-#[derive(Drop)]
+#[derive(Clone, Copy)]
 pub enum Line {
     Nothing,
     One(Event),
@@ -21,7 +23,7 @@ pub enum Line {
 }
 
 // The answer is 0, EVENT or ROOM; length is that of the records written; line is the number of the bad line, counted from 1, or 0.
-#[derive(Drop)]
+#[derive(Clone, Copy)]
 pub struct Written {
     pub answer: u8,
     pub length: usize,
@@ -37,7 +39,7 @@ impl Written {
 }
 
 // The first bad line, or 0; without a bad line, how many events the text tells.
-#[derive(Drop)]
+#[derive(Clone, Copy)]
 struct Checked {
     bad: usize,
     events: usize,

@@ -5,7 +5,7 @@ ghost use Rattle.scenario.specs.Line.{skipped, starts_number, number_in};
 ghost use Rattle.scenario.specs.Number.{meant, value_of};
 
 // A number and the place past it.
-#[derive(Drop)]
+#[derive(Clone, Copy)]
 pub(crate) enum Read {
     Found { value: u16, next: usize },
     Bad,

@@ -1,4 +1,6 @@
 // One event on a field table. The types that an event and its outcome have; what each event does stands in specs/.
+#![tactic(auto)]
+
 use table::Table;
 
 mod collect;
@@ -21,7 +23,7 @@ pub use receive::{receipt, reply};
 pub use steps::step;
 
 // As it is written in a record: the kind has two bytes, each operand one.
-#[derive(Drop)]
+#[derive(Clone, Copy)]
 pub struct Event {
     pub kind: u16,
     pub a: u8,
@@ -30,7 +32,7 @@ pub struct Event {
     pub d: u8,
 }
 
-#[derive(Drop)]
+#[derive(Clone, Copy)]
 pub enum Kind {
     New,
     Move,
@@ -46,7 +48,7 @@ pub enum Kind {
 }
 
 // How many values each operand may take, from 0 on.
-#[derive(Drop)]
+#[derive(Clone, Copy)]
 pub struct Ranges {
     pub a: u8,
     pub b: u8,
@@ -55,7 +57,7 @@ pub struct Ranges {
 }
 
 // What an event did. Its value and the summary of a run are read from this, and from nothing else.
-#[derive(Drop)]
+#[derive(Clone, Copy)]
 pub enum Deed {
     // refused: nothing
     Refused,
@@ -84,7 +86,7 @@ pub enum Deed {
 }
 
 // The answer is 0 or the refusal's number; refused, the table is the very one that came.
-#[derive(Drop)]
+#[derive(Clone, Copy)]
 pub struct Outcome {
     pub answer: u8,
     pub deed: Deed,

@@ -1,5 +1,7 @@
 // Many events in memory, for bench/step to time: document 01's twelve events, over and over. Each round ends with an empty field.
 // The table stays in one local: a function of its own for a part of the round would take it by value, and copy it.
+#![tactic(auto)]
+
 ghost use Rattle.std.specs.Prelude.{◌<◌};
 
 use libc::STDOUT_FILENO;

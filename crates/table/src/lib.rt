@@ -1,4 +1,6 @@
 // The field table by value: the event count, what the controllers hold, who knows of what, and the messages in the air.
+#![tactic(auto)]
+
 mod access; // access.rt: what stands where, and the table with one thing changed
 mod distance; // distance.rt: how far the owner is along Parent
 mod fits; // fits.rt: the shape that every table must have
@@ -10,7 +12,7 @@ use entry::{Entry, ReturnCount, Weight};
 use heap::Heap;
 
 // What a message place holds. A decrement's return count and weight travel side by side and cannot be exchanged.
-#[derive(Drop)]
+#[derive(Clone, Copy)]
 pub enum Message {
     Empty,
     Reference {
@@ -27,23 +29,23 @@ pub enum Message {
     },
 }
 
-#[derive(Drop)]
+#[derive(Clone, Copy)]
 pub struct Place {
     pub held: Message,
 }
 
-#[derive(Drop)]
+#[derive(Clone, Copy)]
 pub struct Slot {
     pub held: Entry,
 }
 
 // All that is known of one object: an entry for each node, or none.
-#[derive(Drop)]
+#[derive(Clone, Copy)]
 pub struct Cell {
     pub at: [Slot; 8],
 }
 
-#[derive(Drop)]
+#[derive(Clone, Copy)]
 pub struct Table {
     pub count: u32,
     pub heap: Heap,
@@ -52,7 +54,7 @@ pub struct Table {
 }
 
 // How far the owner is along Parent.
-#[derive(Drop)]
+#[derive(Clone, Copy)]
 pub enum Depth {
     Steps(u8),
     NotReached,

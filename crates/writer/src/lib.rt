@@ -1,4 +1,6 @@
 // The saved image written: of a whole table, or one record by itself. What is written stands in image's specs/.
+#![tactic(auto)]
+
 mod entry_records; // entry_records.rt: the records of directories and of other entries
 mod heap_records; // heap_records.rt: the records of live objects and of roots
 mod message_records; // message_records.rt: the records of the messages in the air
