@@ -63,6 +63,7 @@ impl Entry {
     }
 
     // The sender's entry when the object's reference goes from node to node.
+    #[tactic(auto, unfolding(crate::specs::AtNode::sent))]
     pub fn sent(self, from: u8, to: u8, object: u8) -> EntryAct
         ensures { result ≡ sent from to object self }
     {
@@ -79,6 +80,7 @@ impl Entry {
     }
 
     // A holder sends on. It needs Presence; home is the way to the owner.
+    #[tactic(auto, unfolding(crate::specs::AtNode::holder_sent))]
     fn holder_sent(home: bool, e: Remote) -> EntryAct
         ensures { result ≡ holder_sent home e }
     {
@@ -93,6 +95,7 @@ impl Entry {
     }
 
     // The receiver's entry when the reference arrives.
+    #[tactic(auto, unfolding(crate::specs::AtNode::received))]
     pub fn received(self, from: u8, to: u8, object: u8) -> EntryAct
         ensures { result ≡ received from to object self }
     {
@@ -109,6 +112,7 @@ impl Entry {
     }
 
     // The receiver's entry when a decrement arrives.
+    #[tactic(auto, unfolding(crate::specs::AtNode::settled))]
     pub fn settled(self, m: ReturnCount, n: Weight) -> EntryAct
         ensures { result ≡ settled m n self }
     {
@@ -131,6 +135,7 @@ impl Entry {
     }
 
     // The deletion condition.
+    #[tactic(auto, unfolding(crate::specs::AtNode::may_go))]
     pub fn may_go(self) -> bool
         ensures { result ≡ may_go self }
     {
@@ -142,6 +147,7 @@ impl Entry {
     }
 
     // Whether the entry may stand for the object at the node: a directory only at the owner, a remote entry only elsewhere.
+    #[tactic(auto, unfolding(crate::specs::Fits::fits_entry))]
     pub fn fits(self, node: u8, object: u8) -> bool
         ensures { result ≡ fits_entry node object self }
     {

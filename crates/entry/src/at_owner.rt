@@ -18,6 +18,7 @@ impl Directory {
     }
 
     // The owner sends again.
+    #[tactic(auto, unfolding(crate::specs::Acts::directory_sent))]
     pub fn sent(mut self) -> DirectoryAct
         ensures { result ≡ directory_sent self }
     {
@@ -36,6 +37,7 @@ impl Directory {
     }
 
     // A reference came home. Its sender has counted the return and tells of it in a decrement, which may come later.
+    #[tactic(auto, unfolding(crate::specs::Acts::directory_came_home))]
     pub fn came_home(mut self) -> DirectoryAct
         ensures { result ≡ directory_came_home self }
     {
@@ -56,6 +58,7 @@ impl Directory {
     }
 
     // A decrement arrived: it takes n references away and brings m returns.
+    #[tactic(auto, unfolding(crate::specs::Acts::directory_settled))]
     pub fn settled(mut self, m: ReturnCount, n: Weight) -> DirectoryAct
         ensures { result ≡ directory_settled self m n }
     {
@@ -104,6 +107,7 @@ impl Directory {
     }
 
     // Whether its numbers are in their ranges.
+    #[tactic(auto, unfolding(crate::specs::Fits::fits_directory))]
     pub fn fits(self) -> bool
         ensures { result ≡ fits_directory self }
     {

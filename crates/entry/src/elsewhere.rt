@@ -20,6 +20,7 @@ impl Remote {
     }
 
     // Sent on to a node that isn't the owner.
+    #[tactic(auto, unfolding(crate::specs::Acts::remote_sent))]
     pub fn sent(mut self) -> RemoteAct
         ensures { result ≡ remote_sent self }
     {
@@ -38,6 +39,7 @@ impl Remote {
     }
 
     // Sent home to the owner: a return, and no reference that this node counts.
+    #[tactic(auto, unfolding(crate::specs::Acts::remote_sent_home))]
     pub fn sent_home(mut self) -> RemoteAct
         ensures { result ≡ remote_sent_home self }
     {
@@ -58,6 +60,7 @@ impl Remote {
     }
 
     // A reference arrived again. From the Parent it adds to the weight; any other sender gets it back as a decrement.
+    #[tactic(auto, unfolding(crate::specs::Acts::remote_received_again))]
     pub fn received_again(mut self, sender: u8) -> RemoteAct
         ensures { result ≡ remote_received_again self sender }
     {
@@ -86,6 +89,7 @@ impl Remote {
     }
 
     // A decrement arrived: it takes n references away and brings m returns.
+    #[tactic(auto, unfolding(crate::specs::Acts::remote_settled))]
     pub fn settled(mut self, m: ReturnCount, n: Weight) -> RemoteAct
         ensures { result ≡ remote_settled self m n }
     {
@@ -134,6 +138,7 @@ impl Remote {
     }
 
     // Whether its numbers are in their ranges.
+    #[tactic(auto, unfolding(crate::specs::Fits::fits_remote))]
     pub fn fits(self) -> bool
         ensures { result ≡ fits_remote self }
     {

@@ -46,6 +46,7 @@ fn planned(image: &[u8], plan: Plan, n: u32, out: &mut [u8]) -> u64
 }
 
 // The call that a COLLECT at node p makes.
+#[tactic(auto, unfolding(plan::specs::Sweep::sweep_changes))]
 fn swept(image: &[u8], p: u8, s: Sweep, n: u32, out: &mut [u8]) -> u64
     requires node { p < NODES }
     requires small { length image.now + 100 ≤ FULL }
@@ -66,6 +67,7 @@ fn swept(image: &[u8], p: u8, s: Sweep, n: u32, out: &mut [u8]) -> u64
 }
 
 // Every event but COLLECT.
+#[tactic(auto, unfolding(step::specs::Event::kind_of))]
 fn change(image: &[u8], e: Event, count: u32, out: &mut [u8]) -> u64
     requires asked { Asked image.now e count }
     requires kind_nonzero { kind_of e.kind ≢ Collect }
@@ -76,6 +78,7 @@ fn change(image: &[u8], e: Event, count: u32, out: &mut [u8]) -> u64
 }
 
 // COLLECT.
+#[tactic(auto, unfolding(step::specs::Event::kind_of))]
 fn collect(image: &[u8], e: Event, count: u32, out: &mut [u8]) -> u64
     requires asked { Asked image.now e count }
     requires kind_value { kind_of e.kind ≡ Collect }

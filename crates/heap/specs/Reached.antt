@@ -4,7 +4,8 @@ use Rattle.std.specs.Prelude.{◌≡◌, Bool, true, false, not, List, [], ◌�
 use Rattle.std.proofs.Math.Path.{refl}
 use Rattle.std.proofs.Common.{sym, ap, ◌∙◌, true≢false, inl, inr, arith, length-set, ext_get_or}
 use Rattle.std.proofs.lemmas.Bool.{false≢true}
-use Rattle.std.proofs.Math.Logic.{Iff·trans, Iff·symm, ⊎_elim}
+use Rattle.std.proofs.Math.Logic.Iff
+use Rattle.std.proofs.Math.Logic.{⊎_elim}
 use Prim.Native.Nat.{ℕ, zero, suc, ◌+◌, ◌-◌, ◌<◌, ◌≤◌}
 use Rattle.std.proofs.Math.Decide.{dec_lt}
 use Rattle.std.proofs.Math.ListN.{length}
@@ -383,4 +384,4 @@ module _ (h : Heap) (scope : Scope) (starts : List ℕ) where
   -- a walk that has ended, in whatever order, has these marks and no others
   pub walked_only : {m : Marks} → Walked h scope starts m → m ≡ reached h scope starts
   walked_only {m} walked =
-      marks_same m (reached h scope starts) (walked.size ∙ sym reached-length) (λ o lt. Iff·trans (walked_is walked o) (Iff·symm (reached_is o)))
+      marks_same m (reached h scope starts) (walked.size ∙ sym reached-length) (λ o lt. Iff.trans (walked_is walked o) (Iff.symm (reached_is o)))

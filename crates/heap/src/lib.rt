@@ -167,6 +167,7 @@ impl Heap {
         free
     }
 
+    #[tactic(auto, unfolding(crate::specs::Heap::fits_object))]
     fn objects_fit(self) -> bool
         ensures { result ≡ every OBJECTS (λ o. fits_object (object_at self o)) }
     {
@@ -182,6 +183,7 @@ impl Heap {
         true
     }
 
+    #[tactic(auto, unfolding(crate::specs::Heap::fits_roots))]
     fn roots_fit(self) -> bool
         ensures { result ≡ every NODES (λ p. fits_roots (roots_at self p)) }
     {
@@ -197,6 +199,7 @@ impl Heap {
         true
     }
 
+    #[tactic(auto, unfolding(crate::specs::Heap::fits_heap))]
     pub fn fits(self) -> bool
         ensures { result ≡ fits_heap self }
     {
@@ -288,6 +291,7 @@ impl Object {
         self
     }
 
+    #[tactic(auto, unfolding(crate::specs::Heap::fits_object))]
     pub fn fits(self) -> bool
         ensures { result ≡ fits_object self }
     {
@@ -320,6 +324,7 @@ impl Roots {
         self
     }
 
+    #[tactic(auto, unfolding(crate::specs::Heap::fits_roots))]
     pub fn fits(self) -> bool
         ensures { result ≡ fits_roots self }
     {

@@ -47,6 +47,7 @@ fn visit_object(heap: Heap, p: u8, marks: Marks, o: u8) -> Marks
 
 // Marks what is reached so from the fields of o, field f and those after it.
 #[cycle(visit_field_visit_object)]
+#[tactic(auto, unfolding(terms::specs::Counted::list_from))]
 fn visit_field(heap: Heap, p: u8, marks: Marks, o: u8, f: u8) -> Marks
     requires { p < NODES }
     ensures { Visited heap (owned_by p) (list_from f (FIELDS - f) (field_at heap o)) marks.seen result.seen }
@@ -74,6 +75,7 @@ impl Heap {
         marks
     }
 
+    #[tactic(auto, unfolding(crate::specs::Walk::pointed))]
     fn visit_pointed(self, p: u8, marks: Marks, tests: [bool; 8]) -> Marks
         requires { p < NODES }
         ensures { Visited self (owned_by p) (pointed p tests) marks.seen result.seen }
@@ -92,6 +94,7 @@ impl Heap {
     }
 
     // What is reached, on p only, from its roots and from the objects of its own that `counted` points at.
+    #[tactic(auto, unfolding(crate::specs::Walk::pointed, crate::specs::Walk::reached))]
     pub fn reached(self, p: u8, counted: [bool; 8]) -> Marks
         ensures { result.seen ≡ reached self (owned_by p) (roots_of self p ++ pointed p counted) }
     {
@@ -102,6 +105,7 @@ impl Heap {
         self.visit_pointed(p, marks, counted)
     }
 
+    #[tactic(auto, unfolding(crate::specs::Walk::mark))]
     fn mark_roots(self, p: u8) -> Marks
         ensures { result.seen ≡ mark everywhere unmarked (roots_of self p) }
     {
@@ -115,6 +119,7 @@ impl Heap {
         marks
     }
 
+    #[tactic(auto, unfolding(crate::specs::Walk::mark))]
     fn mark_fields(self, marks: Marks, o: u8) -> Marks
         ensures { result.seen ≡ mark everywhere marks.seen (fields_of self o) }
     {
@@ -128,6 +133,7 @@ impl Heap {
         more
     }
 
+    #[tactic(auto, unfolding(crate::specs::Walk::mark, crate::specs::Walk::held_by))]
     fn mark_held(self, marks: Marks, holders: Marks) -> Marks
         ensures { result.seen ≡ mark everywhere marks.seen (held_by self holders.seen) }
     {
@@ -144,6 +150,7 @@ impl Heap {
     }
 
     // For each object, whether a root of p or a marked object holds it.
+    #[tactic(auto, unfolding(terms::specs::Counted::holds, crate::specs::Walk::held_by))]
     pub fn held(self, p: u8, marks: Marks) -> Marks
         ensures { result.seen ≡ list OBJECTS (holds (roots_of self p ++ held_by self marks.seen)) }
     {

@@ -84,7 +84,7 @@ module _ (k : RecordKind) (ns rest : List ℕ) (fit : Fit (widths_of k) ns) wher
       )))
     where
       eqb_same : (n : ℕ) → eqb n n ≡ true
-      eqb_same n = borrow.Author.Tests.eq_eqb n n refl
+      eqb_same n = borrow.Author.Tests.eq-eqb n n refl
 
 -- ---- reading records
 

@@ -72,6 +72,7 @@ impl Held {
     }
 
     // How many bytes its record has.
+    #[tactic(auto, unfolding(crate::specs::Find::size_of))]
     pub fn size(self) -> usize
         ensures { result ≡ size_of self }
     {

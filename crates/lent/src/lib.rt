@@ -10,6 +10,7 @@ use entry::{Entry, EntryAct, ReturnCount, Weight};
 pub const SHAPE: u8 = 1;
 
 // A decrement is settled on the entry. The number is 0, or the refusal's, and then the entry stays as it was.
+#[tactic(auto, unfolding(crate::specs::Lent::lent))]
 pub fn settle(e: &mut Entry, m: ReturnCount, n: Weight) -> u8
     ensures { (result ≡ (lent e.old m n).refusal) × (e.new ≡ (lent e.old m n).entry) }
 {
@@ -19,6 +20,7 @@ pub fn settle(e: &mut Entry, m: ReturnCount, n: Weight) -> u8
 }
 
 // The number, and the entry that then stands.
+#[tactic(auto, unfolding(crate::specs::Lent::lent))]
 fn settled(e: Entry, m: ReturnCount, n: Weight) -> EntryAct
     ensures { result ≡ lent e m n }
 {
@@ -36,6 +38,7 @@ fn settled(e: Entry, m: ReturnCount, n: Weight) -> EntryAct
 }
 
 // Whether the entry's own numbers are in their ranges.
+#[tactic(auto, unfolding(crate::specs::Lent::fits_alone))]
 fn fits_alone(e: Entry) -> bool
     ensures { result ≡ fits_alone e }
 {

@@ -12,6 +12,7 @@ use reader::{look_from, place_of};
 
 // ---- what stands there
 
+#[tactic(auto, unfolding(image::specs::Find::found_from))]
 pub fn object_from(l: &[u8], from: usize, o: u8) -> Found
     ensures { result ≡ found_from from (spot_position (object o)) l.now }
 {
@@ -25,6 +26,7 @@ pub(crate) fn roots_from(l: &[u8], from: usize, p: u8) -> Found
 }
 
 // An entry at the owner is a directory.
+#[tactic(auto, unfolding(image::specs::Find::found_from))]
 pub fn entry_from(l: &[u8], from: usize, p: u8, o: u8) -> Found
     ensures { result ≡ found_from from (spot_position (entry_spot p o)) l.now }
 {

@@ -14,6 +14,7 @@ use step::{Deed, Outcome, last_words, receipt, reply};
 use table::{Message, Table};
 
 // The lowest place without a message, in one pass over the messages: each is looked for from the end of the one before it.
+#[tactic(auto, unfolding(crate::specs::Plan::empty_place_in))]
 fn empty_place(l: &[u8]) -> EmptyPlace
     ensures place { result.s ≡ empty_place_in l.now }
     ensures spot { result.spot ≡ message_spot l.now result.s }
@@ -73,6 +74,7 @@ pub(crate) fn send_plan(l: &[u8], p: u8, q: u8, o: u8) -> Plan
     }
 }
 
+#[tactic(auto, unfolding(crate::specs::Plan::receive_plan))]
 fn receive_reference(l: &[u8], s: u8, r: u8, from: u8, to: u8, o: u8, place: Found) -> Plan
     requires { place ≡ message_spot l.now s }
     ensures { result ≡ receive_plan l.now s r (Reference from to o) }
@@ -127,6 +129,7 @@ pub(crate) fn receive_plan(l: &[u8], s: u8, r: u8) -> Plan
     }
 }
 
+#[tactic(auto, unfolding(crate::specs::Plan::settle_plan))]
 fn settle_decrement(
     l: &[u8],
     s: u8,
@@ -181,6 +184,7 @@ pub(crate) fn settle_plan(l: &[u8], s: u8) -> Plan
     }
 }
 
+#[tactic(auto, unfolding(crate::specs::Plan::drop_plan))]
 fn drop_directory(l: &[u8], p: u8, o: u8, d: Directory, found: Found) -> Plan
     requires { found ≡ entry_spot_in l.now p o }
     ensures { result ≡ drop_plan l.now p o (AtOwner d) }
@@ -199,6 +203,7 @@ fn drop_directory(l: &[u8], p: u8, o: u8, d: Directory, found: Found) -> Plan
     }
 }
 
+#[tactic(auto, unfolding(crate::specs::Plan::drop_plan))]
 fn drop_remote(l: &[u8], p: u8, o: u8, remote: Remote, found: Found) -> Plan
     requires found { found ≡ entry_spot_in l.now p o }
     ensures { result ≡ drop_plan l.now p o (Elsewhere remote) }

@@ -11,6 +11,7 @@ use crate::lookups::root_of;
 use crate::message_plans::{drop_plan, receive_plan, send_plan, settle_plan};
 use step::{Event, Kind, Outcome};
 
+#[tactic(auto, unfolding(crate::specs::Plan::plan_for))]
 fn plan_for(l: &[u8], kind: Kind, e: Event) -> Plan
     requires { kind ≡ New → e.a < NODES }
     ensures { result ≡ plan_for kind l.now e }

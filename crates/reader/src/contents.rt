@@ -86,6 +86,7 @@ pub(crate) fn decrement_in(l: &[u8]) -> Place
 
 // ---- whether the shape allows them
 
+#[tactic(auto, unfolding(image::specs::Content::fits_record))]
 fn fits_live(l: &[u8]) -> bool
     requires { HEAD-BYTES + length_of Live ≤ length l.now }
     ensures { result ≡ fits_record Live (payload Live l.now) }
@@ -97,6 +98,7 @@ fn fits_live(l: &[u8]) -> bool
     x.fits()
 }
 
+#[tactic(auto, unfolding(image::specs::Content::fits_record))]
 fn fits_roots(l: &[u8]) -> bool
     requires { HEAD-BYTES + length_of NodeRoots ≤ length l.now }
     ensures { result ≡ fits_record NodeRoots (payload NodeRoots l.now) }
@@ -108,6 +110,7 @@ fn fits_roots(l: &[u8]) -> bool
     x.fits()
 }
 
+#[tactic(auto, unfolding(image::specs::Content::fits_record))]
 fn fits_directory(l: &[u8]) -> bool
     requires { HEAD-BYTES + length_of DirectoryKind ≤ length l.now }
     ensures { result ≡ fits_record DirectoryKind (payload DirectoryKind l.now) }
@@ -120,6 +123,7 @@ fn fits_directory(l: &[u8]) -> bool
     e.fits(o / Entry::OWNED, o)
 }
 
+#[tactic(auto, unfolding(image::specs::Content::fits_record))]
 fn fits_remote(l: &[u8]) -> bool
     requires { HEAD-BYTES + length_of RemoteKind ≤ length l.now }
     ensures { result ≡ fits_record RemoteKind (payload RemoteKind l.now) }
@@ -139,6 +143,7 @@ fn fits_remote(l: &[u8]) -> bool
     e.fits(p, o)
 }
 
+#[tactic(auto, unfolding(image::specs::Content::fits_record))]
 fn fits_reference(l: &[u8]) -> bool
     requires { HEAD-BYTES + length_of Reference ≤ length l.now }
     ensures { result ≡ fits_record Reference (payload Reference l.now) }
@@ -151,6 +156,7 @@ fn fits_reference(l: &[u8]) -> bool
     m.fits()
 }
 
+#[tactic(auto, unfolding(image::specs::Content::fits_record))]
 fn fits_decrement(l: &[u8]) -> bool
     requires { HEAD-BYTES + length_of Decrement ≤ length l.now }
     ensures { result ≡ fits_record Decrement (payload Decrement l.now) }
@@ -163,6 +169,7 @@ fn fits_decrement(l: &[u8]) -> bool
     m.fits()
 }
 
+#[tactic(auto, unfolding(image::specs::Content::fits_record))]
 fn fits_count(l: &[u8]) -> bool
     requires { HEAD-BYTES + length_of Count ≤ length l.now }
     ensures { result ≡ fits_record Count (payload Count l.now) }

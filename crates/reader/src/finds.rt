@@ -16,6 +16,7 @@ use image::{Found, Frame, Held, RecordKind};
 const KEYED: usize = 6;
 
 // The kind that the low byte of its number stands for.
+#[tactic(auto, unfolding(image::specs::Find::kind_of_low))]
 fn kind_of_low(k: u8) -> RecordKind
     ensures { result ≡ kind_of_low k }
 {
@@ -126,6 +127,7 @@ fn held_at(bytes: &[u8], at: usize, position: u32) -> Held
 }
 
 // What stands at a position, looked for from a place in the bytes on.
+#[tactic(auto, unfolding(image::specs::Find::found_from))]
 pub fn look_from(bytes: &[u8], from: usize, position: u32) -> Found
     ensures { result ≡ found_from from position bytes.now }
 {

@@ -17,6 +17,7 @@ const KIND: u8 = 21;
 const LENGTH: u8 = 22;
 
 // The kind that a number stands for.
+#[tactic(auto, unfolding(image::specs::Records::kind_of_code))]
 fn kind_of(code: u32) -> RecordKind
     ensures { result ≡ kind_of_code code }
 {

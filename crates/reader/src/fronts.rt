@@ -30,6 +30,7 @@ fn no_front(number: u8) -> Front
 }
 
 // A record whose frame is in order: its turn, its numbers, and bytes after the end.
+#[tactic(auto, unfolding(image::specs::Front::whole_of))]
 fn whole_of(turn: Turn, kind: RecordKind, l: &[u8]) -> Front
     requires { HEAD-BYTES + length_of kind ≤ length l.now }
     ensures { result ≡ whole_of turn kind l.now }

@@ -42,6 +42,7 @@ impl Progress {
     }
 
     // What the last line tells.
+    #[tactic(auto, unfolding(crate::specs::Run::summary))]
     pub fn summary(self) -> Summary
         ensures { result ≡ summary self }
     {

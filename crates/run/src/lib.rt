@@ -78,6 +78,7 @@ fn finish(out: &mut [u8], at: usize, p: Progress, front: Next) -> Ran
 }
 
 // A line for each event, and what ends the run.
+#[tactic(auto, unfolding(crate::specs::Run::run_text))]
 fn tell(input: &[u8], out: &mut [u8]) -> Ran
     requires { TEXT ≤ length out.old }
     ensures { (result ≡ told input.now) × Wrote out.old 0 (run_text input.now) out.new result.length }
@@ -102,6 +103,7 @@ fn tell(input: &[u8], out: &mut [u8]) -> Ran
 
 // The run that the event records of `input` make, told at the front of `out`; what stands past the text stays.
 // Nothing is written where `out` is too short for some run.
+#[tactic(auto, unfolding(crate::specs::Ran::ran, crate::specs::Ran::run_bytes))]
 pub fn run(input: &[u8], out: &mut [u8]) -> Ran
     ensures value { result ≡ ran input.now out.old }
     ensures out_after { out.new ≡ run_bytes input.now out.old }

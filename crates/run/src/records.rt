@@ -6,6 +6,7 @@ use crate::Next;
 use step::Event;
 
 // What stands at the front: nothing, a record that cannot be taken, or an event.
+#[tactic(auto, unfolding(crate::specs::Next::next))]
 fn next_in(rest: &[u8]) -> Next
     ensures { result ≡ next rest.now }
 {

@@ -13,6 +13,7 @@ const KIND_MOST: u16 = 65535;
 const OPERAND_MOST: u16 = 255;
 
 // Five numbers, and nothing behind them.
+#[tactic(auto, unfolding(crate::specs::Line::event_in))]
 fn read_event(l: &[u8]) -> Line
     ensures { result ≡ event_in l.now }
 {
@@ -48,6 +49,7 @@ fn read_event(l: &[u8]) -> Line
 }
 
 // A line without its carriage return.
+#[tactic(auto, unfolding(crate::specs::Line::bare_line))]
 fn read_bare(l: &[u8]) -> Line
     ensures { result ≡ bare_line l.now }
 {

@@ -40,6 +40,7 @@ fn is_digit(b: u8) -> bool
 }
 
 // The place of the first byte that is no blank.
+#[tactic(auto, unfolding(crate::specs::Line::skipped))]
 fn skip(l: &[u8], at: usize) -> usize
     ensures { drop result l.now ≡ skipped (drop at l.now) }
 {

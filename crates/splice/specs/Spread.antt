@@ -108,7 +108,7 @@ spots_rise = refl
 -- a spot of what rises from n on stands from n on
 member_high : (n : ℕ) (l : List Spot) → rising n l ≡ true → (s : Spot) → Memᴰ s l → n ≤ spot_position s
 unfolding rising
-member_high n [] up s mem = absurd (Memᴰ.not_nil mem)
+member_high n [] up s mem = absurd (Memᴰ.not-nil mem)
 member_high n (x ∷ l) up s mem =
     let p = (and_passes (leb n (spot_position x)) (rising (suc (spot_position x)) l)).0 up in
     let low : n ≤ spot_position x = leb-true n (spot_position x) p.0 in
@@ -129,7 +129,7 @@ module _ (f : Spot → List Record) (placed : (s : Spot) → Places (λ q. q ≡
   -- what stands at a spot of the list is found at its position
   joined-found : (n : ℕ) (l : List Spot) → rising n l ≡ true → (s : Spot) → Memᴰ s l → found (spot_position s) (joined f l ending) ≡ f s
   unfolding rising joined
-  joined-found n [] up s mem = absurd (Memᴰ.not_nil mem)
+  joined-found n [] up s mem = absurd (Memᴰ.not-nil mem)
   joined-found n (x ∷ l) up s mem = ⊎_elim here (λ m. there m (joined-found (suc (spot_position x)) l rest s m)) (Memᴰ.cases_cons mem)
     where
       rest : rising (suc (spot_position x)) l ≡ true

@@ -7,6 +7,7 @@ use heap::Heap;
 use table::Table;
 
 impl Kind {
+    #[tactic(auto, unfolding(crate::specs::Event::kind_of))]
     pub fn of(number: u16) -> Kind
         ensures { result ≡ kind_of number }
     {
@@ -122,6 +123,7 @@ impl Ranges {
 
 impl Event {
     // A known kind, each operand in its range.
+    #[tactic(auto, unfolding(crate::specs::Event::fits_event))]
     pub fn fits(self) -> bool
         ensures { result ≡ fits_event self }
     {

@@ -56,6 +56,7 @@ pub(crate) fn one_more_lem(n: u32, o: Outcome) -> Outcome
 }
 
 // Every table and every event is answered.
+#[tactic(auto, unfolding(crate::specs::Step::step))]
 pub fn step(t: Table, e: Event) -> Outcome
     ensures { result ≡ step t e }
 {

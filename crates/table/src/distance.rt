@@ -40,6 +40,7 @@ impl Cell {
     }
 
     // By at most `left` steps.
+    #[tactic(auto, unfolding(crate::specs::Depth::depth_by))]
     fn depth_by(self, p: u8, left: u8) -> Depth
         requires { left ≤ STEPS }
         ensures { (t : Table) (o : ℕ) → cell_at t o ≡ self → result ≡ depth_by left t o p }
@@ -74,6 +75,7 @@ impl Table {
     }
 
     // The depth as a number for the outside: UNREACHED where there is none, for a number out of range, and for a table that breaks the shape.
+    #[tactic(auto, unfolding(crate::specs::Depth::depth_report))]
     pub fn depth_report(self, p: u8, o: u8) -> u8
         ensures { result ≡ depth_report self p o }
     {

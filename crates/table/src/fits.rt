@@ -21,6 +21,7 @@ impl Message {
         object < Table::OBJECTS
     }
 
+    #[tactic(auto, unfolding(crate::specs::Shape::fits_message))]
     pub fn fits(self) -> bool
         ensures { result ≡ fits_message self }
     {
@@ -48,6 +49,7 @@ impl Message {
 
 impl Cell {
     // As what is known of object o.
+    #[tactic(auto, unfolding(crate::specs::Shape::fits_cell))]
     pub fn fits(self, o: u8) -> bool
         ensures { result ≡ fits_cell o self }
     {
@@ -66,6 +68,7 @@ impl Cell {
 }
 
 impl Table {
+    #[tactic(auto, unfolding(crate::specs::Shape::fits_table))]
     pub fn fits(self) -> bool
         ensures { result ≡ fits_table self }
     {

@@ -10,6 +10,7 @@ use table::Table;
 
 // The image of any table at the front of out; with too little room out is as it was. Whoever knows that the table has the shape calls this, and
 // saves the test. The image is made in a buffer of its own, so that one pass over the table is enough.
+#[tactic(auto, unfolding(image::specs::Writer::put_answer, image::specs::Writer::put_length, image::specs::Writer::put_bytes))]
 pub fn put_image(t: Table, out: &mut [u8]) -> Written
     ensures answer { result.answer ≡ put_answer t out.old }
     ensures length { result.length ≡ put_length t out.old }
@@ -32,6 +33,7 @@ pub fn put_image(t: Table, out: &mut [u8]) -> Written
 }
 
 // The image of the table at the front of out. For a table that breaks the shape, or with too little room, out is as it was.
+#[tactic(auto, unfolding(image::specs::Writer::write_answer, image::specs::Writer::write_length, image::specs::Writer::write_bytes))]
 pub fn write(t: Table, out: &mut [u8]) -> Written
     ensures answer { result.answer ≡ write_answer t out.old }
     ensures length { result.length ≡ write_length t out.old }
