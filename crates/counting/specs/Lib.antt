@@ -1,8 +1,2 @@
 pub mod Adding
-pub mod Bridge
-pub mod Homeward
-pub mod Kept
-pub mod Leaf
 pub mod Rules
-pub mod Turned
-pub mod Under

@@ -2,7 +2,7 @@
 use Rattle.std.specs.Prelude.{◌≡◌, refl, true, not, ◌≢◌, ℕ, ◌<◌, ◌≤◌, leb, ltb, eqb, ℤ, pos, negsuc, nat_abs}
 use Rattle.std.proofs.Common.{sym, true≢false}
 use borrow.Author.Tests.{eq-eqb, eqb-false, eqb-true, le-leb, leb-true, lt-ltb, ltb-true, ne_eqb, not-true}
-use Rattle.terms.specs.ChooseLaws.{and_passes}
+use Rattle.terms.proofs.ChooseLaws.{and_passes}
 use Rattle.terms.specs.Limits.{MOST, NODES, owner}
 use Rattle.entry.specs.declared.ReturnCount.{ReturnCount}
 use Rattle.entry.specs.declared.Directory.{Directory}

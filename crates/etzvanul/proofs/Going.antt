@@ -6,10 +6,10 @@ use Prim.Native.Nat.{ℕ, ◌+◌, ◌-◌, ◌≤◌}
 use native.Mathlib.Omega.{arith}
 use lib.ListN.{length, take, drop, length-append, length-drop}
 use lib.Seq.{sets, take_all}
-use Rattle.terms.specs.BufferLaws.{stored_more}
+use Rattle.terms.proofs.BufferLaws.{stored_more}
 use Rattle.image.specs.declared.Held.TheVariants as h
 use Rattle.image.specs.Stored.{Stored}
-use Rattle.image.specs.StoredLaws.{stored_length}
+use Rattle.image.proofs.StoredLaws.{stored_length}
 use Rattle.plan.specs.declared.Change.{Change}
 use Rattle.plan.specs.declared.Change.TheVariants.{To}
 use Rattle.etzvanul.specs.declared.Cursor.{Cursor}

@@ -6,7 +6,7 @@ use native.Mathlib.Omega.{arith}
 use lib.ListN.{length}
 use lib.Seq.{sets}
 use Rattle.terms.specs.Counted.{list_from}
-use Rattle.terms.specs.CountedLaws.{list_from_first, list_from_none}
+use Rattle.terms.proofs.CountedLaws.{list_from_first, list_from_none}
 use Rattle.terms.specs.Limits.{OBJECTS, OWNED}
 use Rattle.image.specs.declared.Held.TheVariants as h
 use Rattle.image.specs.Stored.{FULL, Stored}

@@ -6,7 +6,7 @@ use Rattle.std.proofs.Math.Bool.{true}
 use mathlib.Core.List.{List}
 use Rattle.terms.specs.Limits.{EVENTS, NODES}
 use Rattle.terms.specs.Numbers.{ACCEPTED, EVENT, ENDED}
-use Rattle.laws.specs.Events.DidLaws.{below}
+use Rattle.laws.proofs.Events.DidLaws.{below}
 use Rattle.step.specs.declared.Deed.{Deed}
 use Rattle.step.specs.declared.Deed.TheVariants.{Collected}
 use Rattle.step.specs.declared.Event.{Event}

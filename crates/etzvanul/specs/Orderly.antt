@@ -10,7 +10,7 @@ use Rattle.table.specs.declared.Message.TheVariants as m
 use Rattle.image.specs.declared.Held.{Held}
 use Rattle.image.specs.declared.Held.TheVariants as h
 use Rattle.image.specs.Find.{held_records, entry_size, message_size, size_of}
-use Rattle.image.specs.RecordBytes.{size_records}
+use Rattle.image.proofs.RecordBytesLaws.{size_records}
 use Rattle.image.specs.Stored.{Stored}
 use Rattle.image.specs.Writer.{bytes_of_all}
 use Rattle.plan.specs.declared.Change.{Change}

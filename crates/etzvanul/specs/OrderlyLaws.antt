@@ -11,11 +11,11 @@ use Rattle.image.specs.Find.{offset}
 use Rattle.image.specs.Order.{position}
 use Rattle.image.specs.Spots.{spot_position}
 use Rattle.image.specs.Writer.{records_of, image}
-use Rattle.splice.specs.Bytes.{offset_within, spot_small}
-use Rattle.splice.specs.Image.{records_fit}
+use Rattle.splice.proofs.Bytes.{offset_within, spot_small}
+use Rattle.splice.proofs.Image.{records_fit}
 use Rattle.splice.specs.Patched.{Ascends}
 use Rattle.splice.specs.Patched as patched
-use Rattle.splice.specs.Scan.{offset_further}
+use Rattle.splice.proofs.Scan.{offset_further}
 use Rattle.step.specs.declared.Outcome.{Outcome}
 use Rattle.plan.specs.declared.Change.{Change}
 use Rattle.plan.specs.declared.Plan.{Plan}

@@ -6,9 +6,9 @@ use Rattle.std.proofs.Math.Bool.{true, false}
 use Rattle.std.proofs.lemmas.Bool.{false≢true}
 use Rattle.std.proofs.lemmas.List.{get_or-replicate}
 use Rattle.terms.specs.Choose.{if◌then◌else◌, ◌and◌}
-use Rattle.terms.specs.ChooseLaws.{and_passes}
+use Rattle.terms.proofs.ChooseLaws.{and_passes}
 use Rattle.terms.specs.Limits.{NODES, OBJECTS, OWNED, owner}
-use Rattle.terms.specs.ListLaws.{get_d_list}
+use Rattle.terms.proofs.ListLaws.{get_d_list}
 use Rattle.terms.specs.Numbers.{TORN}
 use Rattle.entry.specs.Entry.{is_present}
 use Rattle.heap.specs.declared.Heap.{Heap}
@@ -19,8 +19,10 @@ use Rattle.image.specs.BytesLaws.{AreBytes}
 use Rattle.image.specs.Find.{found_from}
 use Rattle.image.specs.Order.{position}
 use Rattle.image.specs.Spots.{Spot, count, object, directory, remote, spot_position}
-use Rattle.splice.specs.Changed.{entry_spot, own_position}
-use Rattle.splice.specs.Onward.{From, from_later, from_found}
+use Rattle.splice.specs.Changed.{entry_spot}
+use Rattle.splice.proofs.Changed.{own_position}
+use Rattle.splice.specs.Onward.{From}
+use Rattle.splice.proofs.Onward.{from_later, from_found}
 use Rattle.step.specs.CollectParts.{is_whole}
 use Rattle.plan.specs.declared.Change.{Change}
 use Rattle.plan.specs.declared.Change.TheVariants.{Same}

@@ -11,7 +11,7 @@ use Rattle.std.proofs.Math.ListN.{length-append}
 use Rattle.terms.specs.Choose.{if◌then◌else◌}
 use Rattle.terms.specs.Counted.{list, list_from}
 use Rattle.terms.specs.Limits.{OBJECTS, OWNED}
-use Rattle.terms.specs.ListLaws.{length_list}
+use Rattle.terms.proofs.ListLaws.{length_list}
 use Rattle.entry.specs.declared.Entry.TheVariants as e
 use Rattle.entry.specs.AtNode.{set_unused}
 use Rattle.entry.specs.Entry.{is_present}

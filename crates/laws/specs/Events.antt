@@ -6,13 +6,3 @@ pub mod Answered
 pub mod Did
 -- every accepted event did it
 pub mod DidLaws
--- the one entry and the one place that it wrote
-pub mod Writes
--- the acts on an entry keep its shape
-pub mod EntryFits
--- and what they do to its Presence
-pub mod Presence
--- every accepted event keeps the shape
-pub mod KeepsShape
--- what each event keeps, every sequence keeps
-pub mod Kept

@@ -15,7 +15,6 @@ pub mod LawE
 -- what every accepted event keeps, and the same as a test that computes
 pub mod Sound
 pub mod SoundTest
-pub mod SoundTestLaws
 -- ---- why it holds
 
 -- what an accepted event did, and that it keeps the shape
@@ -24,13 +23,5 @@ pub mod Events
 pub mod Counting
 -- what nodes hold: law D, COLLECT and NEW
 pub mod Heap
--- law E
-pub mod Draining
--- ---- put together
-
--- no event is TORN
-pub mod NotTorn
--- every accepted event keeps Sound
-pub mod SoundKept
 -- what the return count adds to RC
 pub mod OnTheWayHome

@@ -8,11 +8,11 @@ use Rattle.image.specs.declared.Held.TheVariants as h
 use Rattle.image.specs.BytesLaws.{AreBytes}
 use Rattle.image.specs.Find.{KEYED, front_place, offset, held_of, size_of, found_from}
 use Rattle.image.specs.Reader.{read}
-use Rattle.image.specs.RoundTrip.{read_good, image-read}
+use Rattle.image.proofs.RoundTrip.{read_good, image-read}
 use Rattle.image.specs.Spots.{count, spot_position}
-use Rattle.splice.specs.Accepted.{held-told, object_told, roots_told, entry_told, message_told, place_told, empty_told}
-use Rattle.splice.specs.Scan.{offset_short, offset_stops}
-use Rattle.splice.specs.Spread.{found_at}
+use Rattle.splice.proofs.Accepted.{held-told, object_told, roots_told, entry_told, message_told, place_told, empty_told}
+use Rattle.splice.proofs.Scan.{offset_short, offset_stops}
+use Rattle.splice.proofs.Spread.{found_at}
 use Rattle.plan.specs.Told.{Told}
 
 -- no record stands before the first position

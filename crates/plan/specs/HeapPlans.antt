@@ -16,8 +16,9 @@ use Rattle.heap.specs.Walk.{owned_by}
 use Rattle.image.specs.Find.{of_object}
 use Rattle.image.specs.Spots.{count, object, roots}
 use Rattle.splice.specs.Changed.{roots_with}
-use Rattle.splice.specs.Events.{root_differs}
-use Rattle.splice.specs.Kinds.{object_with, new_differs, store_differs}
+use Rattle.splice.proofs.Events.{root_differs}
+use Rattle.splice.specs.Kinds.{object_with}
+use Rattle.splice.proofs.KindLaws.{new_differs, store_differs}
 use Rattle.step.specs.declared.Deed.TheVariants.{Arranged}
 use Rattle.step.specs.declared.Outcome.{Outcome}
 use Rattle.step.specs.Clear.{clear}

@@ -30,10 +30,11 @@ use Rattle.image.specs.declared.Held.TheVariants as h
 use Rattle.image.specs.Find.{entry_records, held_records}
 use Rattle.image.specs.Spots.{count, message, roots}
 use Rattle.image.specs.Writer.{directory_record, remote_record, message_record}
-use Rattle.laws.specs.Events.EntryFits.{sent_fits, received_fits, settled_fits}
-use Rattle.splice.specs.Changed.{entry_spot, entry_record, entry_within, roots_with}
+use Rattle.laws.proofs.Events.EntryFits.{sent_fits, received_fits, settled_fits}
+use Rattle.splice.specs.Changed.{entry_spot, entry_record, roots_with}
+use Rattle.splice.proofs.Changed.{entry_within}
 use Rattle.splice.specs.Events.{entry_to, message_to}
-use Rattle.splice.specs.Kinds.{send_differs, received_differs, settle_differs, cleared_differs, dropped_differs}
+use Rattle.splice.proofs.KindLaws.{send_differs, received_differs, settle_differs, cleared_differs, dropped_differs}
 use Rattle.splice.specs.Patched as patched
 use Rattle.step.specs.Drop.{drop, drop_of, last_words}
 use Rattle.step.specs.Outcome.{by}

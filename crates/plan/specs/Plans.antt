@@ -2,7 +2,8 @@
 -- Assumes nothing.
 use Rattle.std.specs.Prelude.{◌≡◌, refl, ◌≢◌, true, List, ℕ}
 use Rattle.std.proofs.Common.{arith}
-use Rattle.laws.specs.Events.DidLaws.{Below, below}
+use Rattle.laws.specs.Events.DidLaws.{Below}
+use Rattle.laws.proofs.Events.DidLaws.{below}
 use Rattle.step.specs.declared.Event.{Event}
 use Rattle.step.specs.declared.Kind.{Kind}
 use Rattle.step.specs.declared.Kind.TheVariants.{New, Move, Clear, Load, Store, Send, Receive, Settle, Collect, Drop, Unknown}

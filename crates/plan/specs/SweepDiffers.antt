@@ -7,10 +7,10 @@ use Rattle.std.proofs.Math.Decide.{ℕ_discrete, dec_lt}
 use Rattle.std.proofs.Math.ListN.{get_or-eq_default}
 use Rattle.std.proofs.lemmas.Bool.{eqb-false}
 use Rattle.terms.specs.Choose.{if◌then◌else◌, ◌and◌}
-use Rattle.terms.specs.ChooseLaws.{and_passes}
+use Rattle.terms.proofs.ChooseLaws.{and_passes}
 use Rattle.terms.specs.Counted.{gather, holds}
 use Rattle.terms.specs.Limits.{NODES, OBJECTS, OWNED, owner}
-use Rattle.terms.specs.ListLaws.{get_d_list, length_list}
+use Rattle.terms.proofs.ListLaws.{get_d_list, length_list}
 use Rattle.entry.specs.declared.Entry.{Entry}
 use Rattle.entry.specs.declared.Entry.TheVariants.{Absent}
 use Rattle.entry.specs.AtNode.{set_unused}
@@ -26,7 +26,8 @@ use Rattle.table.specs.Table.{cell_at, cell_with, entry_at, entry_in, with_count
 use Rattle.image.specs.Spots.{Spot, count, object, roots, directory, remote, message, spot_position, record_at}
 use Rattle.image.specs.Stored.{live_record}
 use Rattle.image.specs.Writer.{directory_record, remote_record}
-use Rattle.splice.specs.Changed.{entry_spot, entry_record, proper, entry_record_lem}
+use Rattle.splice.specs.Changed.{entry_spot, entry_record}
+use Rattle.splice.proofs.Changed.{proper, entry_record_lem}
 use Rattle.splice.specs.Events.{count_to, entry_to}
 use Rattle.splice.specs.Patched.{Change, change, Ascends, Stands, Outside, Differs}
 use Rattle.step.specs.Collect.{cell_collected, heap_collected, is_reclaimed, with_collected}

@@ -9,7 +9,7 @@ use borrow.Author.Tests.{eq-eqb, eqb-true, lt-ltb}
 use Rattle.terms.specs.Choose.{if◌then◌else◌, ◌and◌}
 use Rattle.terms.specs.Counted.{holds, how_many}
 use Rattle.terms.specs.Limits.{NODES, OBJECTS, OWNED, owner}
-use Rattle.terms.specs.ListLaws.{get_d_list, length_list, list_is}
+use Rattle.terms.proofs.ListLaws.{get_d_list, length_list, list_is}
 use Rattle.terms.specs.Numbers.{ACCEPTED, TORN}
 use Rattle.entry.specs.declared.Entry.{Entry}
 use Rattle.entry.specs.declared.Entry.TheVariants.{Absent, AtOwner, Elsewhere}

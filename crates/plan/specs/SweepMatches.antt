@@ -19,7 +19,8 @@ use Rattle.image.specs.declared.Held.TheVariants as h
 use Rattle.image.specs.Find.{entry_records, held_records}
 use Rattle.image.specs.Records.{Record}
 use Rattle.image.specs.Spots.{Spot, count, object}
-use Rattle.splice.specs.Changed.{entry_spot, entry_record, entry_within}
+use Rattle.splice.specs.Changed.{entry_spot, entry_record}
+use Rattle.splice.proofs.Changed.{entry_within}
 use Rattle.splice.specs.Events.{count_to}
 use Rattle.splice.specs.Patched as patched
 use Rattle.plan.specs.declared.Change.{Change}

@@ -17,7 +17,7 @@ use Rattle.image.specs.declared.RecordKind.{RecordKind}
 use Rattle.image.specs.declared.RecordKind.TheVariants.{Count, Live, NodeRoots, Directory, Remote, Reference, Decrement, End, Unknown}
 use Rattle.image.specs.declared.Turn.{Turn}
 use Rattle.image.specs.Check.{check}
-use Rattle.image.specs.CheckLaws.{answer-check}
+use Rattle.image.proofs.CheckLaws.{answer-check}
 use Rattle.image.specs.Content.{with_record}
 use Rattle.image.specs.Front.{front_of}
 use Rattle.image.specs.Order.{first_turn}

@@ -18,7 +18,7 @@ use Rattle.image.specs.declared.Turn.{Turn}
 use Rattle.image.specs.Content.{fits_record}
 use Rattle.image.specs.Front.{frame_of, key_of, no_front, good_front, whole_of, after_frame, front_of}
 use Rattle.image.specs.Order.{turn_after}
-use Rattle.image.specs.ReadLaws.{NoneApplies, Refusing}
+use Rattle.image.proofs.ReadLaws.{NoneApplies, Refusing}
 use Rattle.image.specs.Reader.{Taken, stop, stated_kind, payload, rest_after, frame_refusals, content_refusals, take_in, record_of, take_record}
 use Rattle.image.specs.Records.{HEAD, is_unknown, length_of}
 

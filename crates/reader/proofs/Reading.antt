@@ -11,7 +11,7 @@ use lib.Dec.{ltb}
 use lib.ListN.{length, take, drop, set, length-drop}
 use lib.Seq.{drop-drop, take_all}
 use Rattle.terms.specs.Choose.{◌and◌}
-use Rattle.terms.specs.ChooseLaws.{and_passes}
+use Rattle.terms.proofs.ChooseLaws.{and_passes}
 use Rattle.terms.specs.Limits.{NODES, OBJECTS, PLACES}
 use Rattle.terms.specs.Numbers.{ACCEPTED}
 use Rattle.heap.specs.declared.Heap.{Heap}

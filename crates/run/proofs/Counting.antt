@@ -6,7 +6,7 @@ use native.Mathlib.Nat.{mul-suc}
 use native.Mathlib.Numerals.{add-one}
 use native.Mathlib.Omega.{arith}
 use Rattle.terms.specs.Counted.{sum_from, sum, one}
-use Rattle.terms.specs.CountedLaws.{sum_last}
+use Rattle.terms.proofs.CountedLaws.{sum_last}
 use Rattle.step.specs.declared.Deed.{Deed}
 use Rattle.step.specs.declared.Deed.TheVariants.{Refused, Arranged, Born, Sent, CameHome, Made}
 use Rattle.step.specs.declared.Deed.TheVariants.{Merged, Answered, Settled, Collected, Dropped, Cleared}

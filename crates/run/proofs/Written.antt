@@ -5,7 +5,7 @@ use Prim.Native.Nat.{ℕ, ◌+◌, ◌<◌}
 use native.Mathlib.Omega.{arith}
 use lib.ListN.{length, set, length-append}
 use lib.Seq.{length-sets}
-use Rattle.terms.specs.BufferLaws.{sets_append, sets_front}
+use Rattle.terms.proofs.BufferLaws.{sets_append, sets_front}
 use Rattle.terms.specs.Bytes.{over}
 use Rattle.run.specs.Buffer.{Room, Wrote}
 

@@ -1,14 +1,8 @@
-pub mod Accepted
 pub mod Bytes
 pub mod Changed
 pub mod Events
-pub mod Fronts
-pub mod Image
 pub mod Kinds
-pub mod Lookup
 pub mod Onward
 pub mod Parts
 pub mod Patched
-pub mod Scan
-pub mod Seen
 pub mod Spread

@@ -10,7 +10,7 @@ use Rattle.std.proofs.lemmas.List.{set-get_or}
 use Rattle.terms.specs.Choose.{if◌then◌else◌, ◌and◌, ◌or◌}
 use Rattle.terms.specs.Counted.{all, every, holds, list}
 use Rattle.terms.specs.Limits.{OBJECTS}
-use Rattle.terms.specs.ListLaws.{get_d_list, length_list}
+use Rattle.terms.proofs.ListLaws.{get_d_list, length_list}
 use Rattle.entry.specs.declared.Entry.{Entry}
 use Rattle.entry.specs.declared.Entry.TheVariants.{Absent, AtOwner, Elsewhere}
 use Rattle.entry.specs.declared.Remote.{Remote}

@@ -4,7 +4,7 @@ use Rattle.std.specs.Prelude.{◌≡◌, refl, true, false, List, [], ℕ, ◌<�
 use Rattle.std.proofs.Common.{◌∙◌, length-set}
 use Rattle.terms.specs.Counted.{every_from}
 use Rattle.terms.specs.Limits.{NODES, OBJECTS, PLACES, FIELDS, ROOTS}
-use Rattle.terms.specs.SetLaws.{every_set, set_all}
+use Rattle.terms.proofs.SetLaws.{every_set, set_all}
 use Rattle.entry.specs.declared.Entry.{Entry}
 use Rattle.entry.specs.declared.Entry.TheVariants.{Absent}
 use Rattle.entry.specs.Fits.{fits_entry}

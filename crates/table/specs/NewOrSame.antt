@@ -2,7 +2,7 @@
 -- there before. It holds for lists of any length, so nothing is asked of the table. Assumes nothing.
 use Rattle.std.specs.Prelude.{◌≡◌, ◌⊎◌, [], ℕ, get_or, set}
 use Rattle.std.proofs.Common.{ap, ◌∙◌, inl, inr, ⊎_elim}
-use Rattle.terms.specs.SetLaws.{set_either}
+use Rattle.terms.proofs.SetLaws.{set_either}
 use Rattle.entry.specs.declared.Entry.{Entry}
 use Rattle.heap.specs.declared.Heap.{Heap}
 use Rattle.heap.specs.declared.Object.{Object}

@@ -3,9 +3,9 @@ use Rattle.std.specs.Prelude.{◌≡◌, Bool, true, false, not, ◌≢◌, ℕ,
 use Rattle.std.proofs.Math.Path.{sym}
 use Rattle.std.proofs.Common.{ap, ◌∙◌, true≢false, ⊎_elim, arith, leb-true, ltb-true, lt-ltb, ne_eqb}
 use Rattle.std.proofs.lemmas.Bool.{eqb-false, not-true}
-use Rattle.terms.specs.ChooseLaws.{and_passes, or_passes}
+use Rattle.terms.proofs.ChooseLaws.{and_passes, or_passes}
 use Rattle.terms.specs.Counted.{every}
-use Rattle.terms.specs.CountedLaws.{every_all, every_at}
+use Rattle.terms.proofs.CountedLaws.{every_all, every_at}
 use Rattle.terms.specs.Limits.{NODES, OBJECTS, PLACES, FIELDS, ROOTS, MOST, owner}
 use Rattle.entry.specs.declared.ReturnCount.{ReturnCount}
 use Rattle.entry.specs.declared.Weight.{Weight}

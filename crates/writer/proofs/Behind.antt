@@ -5,7 +5,7 @@ use native.Mathlib.Omega.{arith}
 use lib.ListN.{length}
 use Rattle.image.specs.Records.{Record}
 use Rattle.image.specs.Stored.{Stored, Put}
-use Rattle.image.specs.StoredLaws.{stored_both}
+use Rattle.image.proofs.StoredLaws.{stored_both}
 use Rattle.image.specs.Writer.{bytes_of_all}
 
 infixl 4 ◌then◌

@@ -6,13 +6,13 @@ use Prim.Native.Nat.{ℕ}
 use native.Mathlib.Omega.{arith}
 use lib.ListN.{length}
 use lib.Seq.{take_at}
-use Rattle.terms.specs.BufferLaws.{sets_front}
+use Rattle.terms.proofs.BufferLaws.{sets_front}
 use Rattle.table.specs.declared.Table.{Table}
 use Rattle.image.specs.declared.RecordKind.TheVariants.{Count, End}
 use Rattle.image.specs.Records.{Record, row, record_bytes}
 use Rattle.image.specs.Stored.{Stored, Put, Made, heap_records, cells_records, air_records}
 use Rattle.image.specs.Stored.{COUNT_BYTES, HEAP_BYTES, CELLS_BYTES, AIR_BYTES, END_BYTES, FULL}
-use Rattle.image.specs.StoredLaws.{stored_length, put_both}
+use Rattle.image.proofs.StoredLaws.{stored_length, put_both}
 use Rattle.image.specs.Writer.{bytes_of_all, records_of, image}
 use Rattle.writer.proofs.Behind.{whole as all_of}
 

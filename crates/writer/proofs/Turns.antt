@@ -6,7 +6,7 @@ use native.Mathlib.Omega.{arith}
 use Rattle.terms.specs.Counted.{gather}
 use Rattle.image.specs.Records.{Record}
 use Rattle.image.specs.Stored.{Put}
-use Rattle.image.specs.StoredLaws.{put_start, put_more}
+use Rattle.image.proofs.StoredLaws.{put_start, put_more}
 
 -- those of the numbers below i are put, in so many bytes at most for each
 pub record Passed (limit width : ℕ) (f : ℕ → List Record) (i : ℕ) (out₀ : List ℕ) (at₀ : ℕ) (out : List ℕ) (at : ℕ) : Type 0 where

@@ -1,0 +1,14 @@
+pub mod Accepted
+pub mod Bytes
+pub mod Changed
+pub mod Events
+pub mod Fronts
+pub mod Image
+pub mod KindLaws
+pub mod Lookup
+pub mod Onward
+pub mod Parts
+pub mod Patched
+pub mod Scan
+pub mod Seen
+pub mod Spread
