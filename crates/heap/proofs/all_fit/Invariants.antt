@@ -1,12 +1,13 @@
-use Rattle.std.proofs.Common.{length, ◌-◌, ◌≡◌, get_or, ℕ, ◌+◌, ◌*◌, ◌<◌, ◌≤◌}
+-- The invariant: the whole test is that of the names from `i` on.
+use Rattle.std.proofs.Common.{get_or, length, ◌-◌}
 use Rattle.terms.specs.Counted.{every}
-use Rattle.terms.specs.Limits.{NODES, OBJECTS}
-use Rattle.heap.specs.Heap.{idle, born, fresh_heap, object_at, is_live, field_at, roots_at, root_at, with_object, with_field, with_root, free_own, with_root_in, with_field_in, fits_name, fits_field, fits_object, fits_roots, fits_heap}
+use Rattle.terms.proofs.CountedLaws.{Tested}
+use Rattle.heap.specs.Heap.{fits_field}
 use Rattle.heap.proofs.all_fit.Given as goal
 
 abbrev pub invariant-loop-i : goal.invariant-loop-i
-invariant-loop-i l = ?
+invariant-loop-i l =
+    Tested (every (length l.names) (λ k. fits_field l.live (get_or l.names k 0))) (length l.names) (λ k. fits_field l.live (get_or l.names k 0)) l.i
 
--- proposed from the loop's first test
 abbrev pub decreases-loop-i : goal.decreases-loop-i
 decreases-loop-i l = length l.names - l.i

@@ -1,10 +1,6 @@
-pub mod BufferLaws
 pub mod Bytes
 pub mod Choose
-pub mod ChooseLaws
 pub mod Counted
 pub mod CountedLaws
 pub mod Limits
-pub mod ListLaws
 pub mod Numbers
-pub mod SetLaws
