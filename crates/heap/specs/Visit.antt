@@ -1,13 +1,11 @@
 -- A part of the walk: what it makes of the marks that came in (`Visited`), how parts come one after the other, and when the parts are
 -- the whole. Assumes nothing.
-use Rattle.std.specs.Prelude.{◌≡◌, refl, true, false, List, [], ◌∷◌, ◌++◌, ◌⊎◌, ℕ, ◌<◌, length, set}
-use Rattle.std.proofs.Common.{sym, ◌∙◌, inl, inr, ⊎_elim, arith}
-use Rattle.std.proofs.lemmas.Bool.{false≢true}
+use Rattle.std.specs.Prelude.{◌≡◌, true, List, ◌⊎◌, ℕ, ◌<◌, length}
 use Rattle.terms.specs.Counted.{holds}
 use Rattle.terms.specs.Limits.{OBJECTS, FIELDS}
 use Rattle.heap.specs.declared.Heap.{Heap}
 use Rattle.heap.specs.Heap.{field_at}
-use Rattle.heap.specs.Walk.{Scope, Within, Reached, through, Marks, is_marked}
+use Rattle.heap.specs.Walk.{Scope, Within, Reached, Marks, is_marked}
 
 -- all that object x holds of the scope is marked
 abbrev pub Shut : Heap → Scope → Marks → ℕ → Type 0

@@ -105,7 +105,6 @@ impl Heap {
         self.visit_pointed(p, marks, counted)
     }
 
-    #[tactic(auto, unfolding(crate::specs::Walk::mark))]
     fn mark_roots(self, p: u8) -> Marks
         ensures { result.seen ≡ mark everywhere unmarked (roots_of self p) }
     {
@@ -119,7 +118,6 @@ impl Heap {
         marks
     }
 
-    #[tactic(auto, unfolding(crate::specs::Walk::mark))]
     fn mark_fields(self, marks: Marks, o: u8) -> Marks
         ensures { result.seen ≡ mark everywhere marks.seen (fields_of self o) }
     {
@@ -133,7 +131,6 @@ impl Heap {
         more
     }
 
-    #[tactic(auto, unfolding(crate::specs::Walk::mark, crate::specs::Walk::held_by))]
     fn mark_held(self, marks: Marks, holders: Marks) -> Marks
         ensures { result.seen ≡ mark everywhere marks.seen (held_by self holders.seen) }
     {
