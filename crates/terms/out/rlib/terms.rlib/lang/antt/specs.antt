@@ -1,6 +1,0 @@
-pub mod Bytes
-pub mod Choose
-pub mod Counted
-pub mod CountedLaws
-pub mod Limits
-pub mod Numbers
