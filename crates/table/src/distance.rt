@@ -63,6 +63,7 @@ impl Cell {
 
 impl Table {
     // The depth of object o at node p.
+    #[tactic(auto, unfolding(crate::specs::Depth::depth_by))]
     pub fn depth(self, p: u8, o: u8) -> Depth
         ensures { result ≡ depth self p o }
     {
