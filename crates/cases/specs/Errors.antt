@@ -1,7 +1,7 @@
 -- The four errors that document 01 wants shut out. Each is written down as a rule of its own, and a state and an event are shown at which it
 -- and the right rule differ. All by computation; assumes nothing.
-use Rattle.std.specs.Prelude.{◌≡◌, refl, Bool, true, false, not, List, [], ◌∷◌, ◌++◌, ℕ, ◌+◌, ◌*◌, eqb, ltb, ℤ, pos, negsuc}
-use Rattle.terms.specs.Choose.{if◌then◌else◌, ◌or◌, ◌when◌}
+use Rattle.std.specs.Prelude.{◌≡◌, refl, Bool, true, false, not, List, [], ◌∷◌, ◌++◌, ℕ, ◌+◌, ◌*◌, eqb, ltb, ℤ, pos, negsuc, if◌then◌else◌}
+use Rattle.terms.specs.Choose.{◌or◌, ◌when◌}
 use Rattle.terms.specs.Counted.{gather}
 use Rattle.terms.specs.Limits.{OWNED}
 use Rattle.terms.specs.Numbers.{ACCEPTED, BUSY}

@@ -1,6 +1,5 @@
 -- The fresh image and the largest, proved by computation: 116 and 11,508 bytes; and a host's first calls. Assumes nothing.
-use Rattle.std.specs.Prelude.{◌≡◌, refl, true, [], ℕ, ◌+◌, ◌*◌, ◌%◌, eqb, pos, negsuc, length, replicate}
-use Rattle.terms.specs.Choose.{if◌then◌else◌}
+use Rattle.std.specs.Prelude.{◌≡◌, refl, true, [], ℕ, ◌+◌, ◌*◌, ◌%◌, eqb, pos, negsuc, length, replicate, if◌then◌else◌}
 use Rattle.terms.specs.Counted.{list}
 use Rattle.terms.specs.Limits.{NODES, OBJECTS, PLACES, FIELDS, ROOTS, MOST, EVENTS, UNREACHED, owner}
 use Rattle.terms.specs.Numbers.{ACCEPTED, SHORT, ROOM}

@@ -1,8 +1,7 @@
 -- The test of Sound on single tables: it passes after every event of document 01's run, and fails on tables made by hand that break its
 -- conditions, each with the conditions that it breaks. Two conditions can't be broken alone: a reference to an object that isn't live breaks
 -- a law on counts as well, and a directory's return count that is owed too much is missing above zero too. All by computation; assumes nothing.
-use Rattle.std.specs.Prelude.{◌≡◌, refl, Bool, true, false, List, [], ◌∷◌, ◌++◌, ℕ, pos, negsuc, replicate, take}
-use Rattle.terms.specs.Choose.{if◌then◌else◌}
+use Rattle.std.specs.Prelude.{◌≡◌, refl, Bool, true, false, List, [], ◌∷◌, ◌++◌, ℕ, pos, negsuc, replicate, take, if◌then◌else◌}
 use Rattle.entry.specs.declared.Entry.{Entry}
 use Rattle.entry.specs.declared.Entry.TheVariants.{AtOwner, Elsewhere}
 use Rattle.entry.specs.Acts.{directory}

@@ -1,8 +1,8 @@
 -- Document 01's rules without the return count: a directory is asked for its RC alone where DROP deletes it and where COLLECT starts. Everything
 -- else is the definitions of step. These are the rules of a controller that saves the four bytes of MsgCtr; specs/FourBytes.antt shows what they
 -- cost. Assumes nothing.
-use Rattle.std.specs.Prelude.{◌≡◌, refl, Bool, true, false, not, ℕ, eqb, ltb}
-use Rattle.terms.specs.Choose.{if◌then◌else◌, ◌and◌, answered}
+use Rattle.std.specs.Prelude.{◌≡◌, refl, Bool, true, false, not, ℕ, eqb, ltb, if◌then◌else◌}
+use Rattle.terms.specs.Choose.{◌and◌, answered}
 use Rattle.terms.specs.Counted.{list_from, gather_from}
 use Rattle.entry.specs.declared.Directory.{Directory}
 use Rattle.entry.specs.declared.Remote.{Remote}

@@ -1,9 +1,8 @@
 -- A balanced change of one entry and one message keeps the laws of an object (PROOF-PLAN, "Laws A and B, act by act" and "Law C").
 -- Assumes nothing.
-use Rattle.std.specs.Prelude.{◌≡◌, ◌≢◌, ℕ, suc, ◌+◌, ◌<◌, eqb}
+use Rattle.std.specs.Prelude.{◌≡◌, ◌≢◌, ℕ, suc, ◌+◌, ◌<◌, eqb, if◌then◌else◌}
 use Rattle.std.proofs.Common.{sym, ap, ap₂, ◌∙◌, inl, inr, arith, eq-eqb, ne_eqb}
 use Rattle.std.proofs.Math.Decide.{ℕ_discrete}
-use Rattle.terms.specs.Choose.{if◌then◌else◌}
 use Rattle.terms.specs.Counted.{one, sum}
 use Rattle.terms.proofs.CountedLaws.{sum_at}
 use Rattle.counting.specs.Adding.{Adding, pairs, swap, total_replaced, sum_replaced}

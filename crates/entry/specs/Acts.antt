@@ -1,7 +1,7 @@
 -- The small acts by which an entry changes (document 01, "Events"; document 000, section 4.5). An act hands back the entry with the
 -- refusal beside it: TORN where a count would leave its range, the entry then as it was. Definitions only; assumes nothing.
-use Rattle.std.specs.Prelude.{Bool, true, false, not, ℕ, ◌+◌, ◌-◌, leb, ltb, eqb}
-use Rattle.terms.specs.Choose.{if◌then◌else◌, ◌and◌}
+use Rattle.std.specs.Prelude.{Bool, true, false, not, ℕ, ◌+◌, ◌-◌, leb, ltb, eqb, if◌then◌else◌}
+use Rattle.terms.specs.Choose.{◌and◌}
 use Rattle.terms.specs.Limits.{MOST}
 use Rattle.terms.specs.Numbers.{ACCEPTED, TORN}
 use Rattle.entry.specs.declared.ReturnCount.{ReturnCount}

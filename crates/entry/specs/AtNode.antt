@@ -1,7 +1,6 @@
 -- The acts on whatever stands for an object at a node: a directory, a remote entry, or nothing (document 01, SEND, RECEIVE, SETTLE, DROP and
 -- COLLECT). This is all that the events know of entries. Definitions only; assumes nothing.
-use Rattle.std.specs.Prelude.{Bool, false, not, ℕ, eqb}
-use Rattle.terms.specs.Choose.{if◌then◌else◌}
+use Rattle.std.specs.Prelude.{Bool, false, not, ℕ, eqb, if◌then◌else◌}
 use Rattle.terms.specs.Limits.{owner}
 use Rattle.terms.specs.Numbers.{ACCEPTED, TORN}
 use Rattle.entry.specs.declared.ReturnCount.{ReturnCount}

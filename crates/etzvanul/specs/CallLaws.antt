@@ -1,12 +1,11 @@
 -- What the call comes to, case by case, in the order in which it is tried, and the number and the buffer then. Assumes nothing.
-use Rattle.std.specs.Prelude.{◌≡◌, ◌≢◌, Bool, List, ℕ, ◌+◌, ◌*◌, eqb, ltb}
+use Rattle.std.specs.Prelude.{◌≡◌, ◌≢◌, Bool, List, ℕ, ◌+◌, ◌*◌, eqb, ltb, if◌then◌else◌}
 use Rattle.std.proofs.Math.Path.{refl}
 use Rattle.std.proofs.Common.{sym, ap, ◌∙◌, true≢false, arith}
 use Rattle.std.proofs.Math.Bool.{true, false}
 use Rattle.std.proofs.Math.ListN.{length}
 use borrow.Author.Tests.{eq-eqb, ne_eqb}
 use Rattle.terms.specs.Bytes.{over}
-use Rattle.terms.specs.Choose.{if◌then◌else◌}
 use Rattle.terms.specs.Numbers.{ACCEPTED, EVENT, ROOM}
 use Rattle.step.specs.declared.Outcome.{Outcome}
 use Rattle.step.specs.EventRecord.{event_in, is_record}

@@ -1,13 +1,13 @@
 -- What the call comes to once the image is accepted and the record is an event: the tests that any event meets, and then an answer, a deed and a new
 -- image that were found without a table. Assumes nothing.
-use Rattle.std.specs.Prelude.{◌≡◌, ◌≢◌, Bool, List, [], ◌∷◌, ℕ, ◌+◌, ◌<◌, ◌≤◌, length}
+use Rattle.std.specs.Prelude.{◌≡◌, ◌≢◌, Bool, List, [], ◌∷◌, ℕ, ◌+◌, ◌<◌, ◌≤◌, length, if◌then◌else◌}
 use Rattle.std.proofs.Math.Path.{refl}
 use Rattle.std.proofs.Common.{sym, ap, ◌∙◌, arith}
 use Rattle.std.proofs.Math.Bool.{true, false, not}
 use Rattle.std.proofs.Math.Dec.{eqb, ltb}
 use borrow.Author.Tests.{eq-eqb, ne_eqb, eqb-true, eqb-false, lt-ltb, le-ltb}
 use Rattle.terms.specs.Bytes.{over}
-use Rattle.terms.specs.Choose.{if◌then◌else◌, ◌when◌, answered}
+use Rattle.terms.specs.Choose.{◌when◌, answered}
 use Rattle.terms.specs.Limits.{EVENTS}
 use Rattle.terms.specs.Numbers.{ACCEPTED, EVENT, ENDED, ROOM}
 use Rattle.step.specs.declared.Deed.{Deed}

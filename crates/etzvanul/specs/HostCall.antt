@@ -1,8 +1,8 @@
 -- The host call (document 01, "Saved image", last paragraph): image in, one event record, buffer for the new image; one number comes back.
 -- Definitions only; assumes nothing.
-use Rattle.std.specs.Prelude.{not, List, [], ◌∷◌, ℕ, ◌+◌, ◌*◌, eqb, ltb, length}
+use Rattle.std.specs.Prelude.{not, List, [], ◌∷◌, ℕ, ◌+◌, ◌*◌, eqb, ltb, length, if◌then◌else◌}
 use Rattle.terms.specs.Bytes.{over}
-use Rattle.terms.specs.Choose.{Refusal, if◌then◌else◌, ◌when◌, answered}
+use Rattle.terms.specs.Choose.{Refusal, ◌when◌, answered}
 use Rattle.terms.specs.Numbers.{ACCEPTED, EVENT, ROOM}
 use Rattle.step.specs.declared.Outcome.{Outcome}
 use Rattle.step.specs.Outcome.{value_of}

@@ -1,11 +1,11 @@
 -- COLLECT's changes looked up one after the other, each from where the last one ended. Assumes nothing.
-use Rattle.std.specs.Prelude.{◌≡◌, refl, Bool, not, List, ℕ, ◌+◌, ◌*◌, ◌≤◌, ◌<◌, eqb}
+use Rattle.std.specs.Prelude.{◌≡◌, refl, Bool, not, List, ℕ, ◌+◌, ◌*◌, ◌≤◌, ◌<◌, eqb, if◌then◌else◌}
 use Rattle.std.proofs.Math.Path.{sym, ap}
 use Rattle.std.proofs.Common.{subst, ◌∙◌, arith, eq-eqb, lt-ltb}
 use Rattle.std.proofs.Math.Bool.{true, false}
 use Rattle.std.proofs.lemmas.Bool.{false≢true}
 use Rattle.std.proofs.lemmas.List.{get_or-replicate}
-use Rattle.terms.specs.Choose.{if◌then◌else◌, ◌and◌}
+use Rattle.terms.specs.Choose.{◌and◌}
 use Rattle.terms.proofs.ChooseLaws.{and_passes}
 use Rattle.terms.specs.Limits.{NODES, OBJECTS, OWNED, owner}
 use Rattle.terms.proofs.ListLaws.{get_d_list}

@@ -1,6 +1,6 @@
 -- The image that COLLECT leaves has a length that the number of a call has room for, and the entries that are no longer used do not change it.
 -- Assumes nothing.
-use Rattle.std.specs.Prelude.{◌≡◌, Bool, List, ◌++◌, length}
+use Rattle.std.specs.Prelude.{◌≡◌, Bool, List, ◌++◌, length, if◌then◌else◌}
 use Rattle.std.proofs.Math.Path.{refl, ap}
 use Rattle.std.proofs.Common.{◌∙◌}
 use Rattle.std.proofs.Math.Bool.{true, false}
@@ -8,7 +8,6 @@ use Rattle.std.proofs.lemmas.Bool.{false≢true}
 use Prim.Native.Nat.{ℕ, zero, suc, ◌+◌, ◌-◌, ◌≤◌, ◌<◌}
 use native.Mathlib.Omega.{arith}
 use Rattle.std.proofs.Math.ListN.{length-append}
-use Rattle.terms.specs.Choose.{if◌then◌else◌}
 use Rattle.terms.specs.Counted.{list, list_from}
 use Rattle.terms.specs.Limits.{OBJECTS, OWNED}
 use Rattle.terms.proofs.ListLaws.{length_list}

@@ -1,6 +1,6 @@
 -- The walk that computes marks exactly what the relation reaches: `reached_is`. On the way there: what marking adds, what marked objects
 -- hold, and why as many rounds as the scope has objects are enough. For code that walks in another order: `walked_only`. Assumes nothing.
-use Rattle.std.specs.Prelude.{◌≡◌, Bool, true, false, not, List, [], ◌∷◌, ◌++◌, ◌↔◌, ◌⊎◌, get_or, set, replicate}
+use Rattle.std.specs.Prelude.{◌≡◌, Bool, true, false, not, List, [], ◌∷◌, ◌++◌, ◌↔◌, ◌⊎◌, get_or, set, replicate, if◌then◌else◌}
 use Rattle.std.proofs.Math.Path.{refl}
 use Rattle.std.proofs.Common.{sym, ap, ◌∙◌, true≢false, inl, inr, arith, length-set, ext_get_or}
 use Rattle.std.proofs.lemmas.Bool.{false≢true}
@@ -9,7 +9,7 @@ use Rattle.std.proofs.Math.Logic.{⊎_elim}
 use Prim.Native.Nat.{ℕ, zero, suc, ◌+◌, ◌-◌, ◌<◌, ◌≤◌}
 use Rattle.std.proofs.Math.Decide.{dec_lt}
 use Rattle.std.proofs.Math.ListN.{length}
-use Rattle.terms.specs.Choose.{if◌then◌else◌, ◌and◌}
+use Rattle.terms.specs.Choose.{◌and◌}
 use Rattle.terms.proofs.ChooseLaws.{and_passes}
 use Rattle.terms.specs.Counted.{holds, how_many, list, list_from, gather_from}
 use Rattle.terms.specs.CountedLaws.{Some}

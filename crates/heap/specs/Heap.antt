@@ -1,7 +1,7 @@
 -- Objects, fields and roots (document 01, "The field table"): what each holds, and the heap with one of them changed.
 -- Definitions only; assumes nothing.
-use Rattle.std.specs.Prelude.{Bool, true, false, not, List, [], ◌∷◌, ℕ, ◌+◌, ◌*◌, ltb, eqb, get_or, set, replicate}
-use Rattle.terms.specs.Choose.{if◌then◌else◌, ◌and◌, ◌or◌}
+use Rattle.std.specs.Prelude.{Bool, true, false, not, List, [], ◌∷◌, ℕ, ◌+◌, ◌*◌, ltb, eqb, get_or, set, replicate, if◌then◌else◌}
+use Rattle.terms.specs.Choose.{◌and◌, ◌or◌}
 use Rattle.terms.specs.Counted.{every, lowest}
 use Rattle.terms.specs.Limits.{NODES, OBJECTS, OWNED, FIELDS, ROOTS, NONE}
 use Rattle.heap.specs.declared.Object.{Object}

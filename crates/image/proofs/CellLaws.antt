@@ -1,8 +1,7 @@
 -- The cells while an image is read: some entries are the table's already, the others are absent still. Assumes nothing.
-use Rattle.std.specs.Prelude.{◌≡◌, refl, Bool, true, false, List, [], ℕ, ◌<◌, ltb, length, get_or, set}
+use Rattle.std.specs.Prelude.{◌≡◌, refl, Bool, true, false, List, [], ℕ, ◌<◌, ltb, length, get_or, set, if◌then◌else◌}
 use Rattle.std.proofs.Common.{sym, ap, ◌∙◌, arith, length-set, ext_get_or, get_or-set_same, get_or-set_other, ltb-true, ltb-false, lt-ltb}
 use Rattle.std.proofs.Math.Decide.{ℕ_discrete}
-use Rattle.terms.specs.Choose.{if◌then◌else◌}
 use Rattle.terms.specs.Limits.{NODES, OBJECTS}
 use Rattle.terms.proofs.SetLaws.{set_all}
 use Rattle.entry.specs.declared.Entry.{Entry}

@@ -1,8 +1,8 @@
 -- What the reader answers depends on the bytes alone and not on the table so far: so an image is checked where it lies, with no table.
 -- Assumes nothing.
-use Rattle.std.specs.Prelude.{◌≡◌, refl, Bool, true, false, List, [], ◌∷◌, ◌++◌, ℕ, zero, suc, length}
+use Rattle.std.specs.Prelude.{◌≡◌, refl, Bool, true, false, List, [], ◌∷◌, ◌++◌, ℕ, zero, suc, length, if◌then◌else◌}
 use Rattle.std.proofs.Common.{ap, ◌∙◌}
-use Rattle.terms.specs.Choose.{Refusal, if◌then◌else◌, answered}
+use Rattle.terms.specs.Choose.{Refusal, answered}
 use Rattle.terms.specs.Numbers.{ACCEPTED}
 use Rattle.table.specs.declared.Table.{Table}
 use Rattle.table.specs.Table.{fresh_table}

@@ -1,12 +1,12 @@
 -- Reading is about records: what the reader does with the bytes of records, record by record. Assumes nothing.
-use Rattle.std.specs.Prelude.{◌≡◌, Bool, false, List, [], ◌∷◌, ◌++◌, ℕ, zero, suc, ◌+◌, ◌≤◌, ◌<◌, ltb, length, drop}
+use Rattle.std.specs.Prelude.{◌≡◌, Bool, false, List, [], ◌∷◌, ◌++◌, ℕ, zero, suc, ◌+◌, ◌≤◌, ◌<◌, ltb, length, drop, if◌then◌else◌}
 use Rattle.std.proofs.Math.Path.{refl}
 use Rattle.std.proofs.Common.{sym, ap, subst, ◌∙◌, true≢false, append_assoc, arith, length-append, length-drop, take-append-drop, drop_at, drop-drop}
 use Rattle.std.proofs.Math.Bool.{true}
 use Rattle.std.proofs.lemmas.Bool.{false≢true}
 use Rattle.std.proofs.Math.Dec.{eqb}
 use borrow.Author.Tests.{le-ltb, ltb-false, eqb-true, not-false}
-use Rattle.terms.specs.Choose.{Refusal, if◌then◌else◌, ◌and◌, answered}
+use Rattle.terms.specs.Choose.{Refusal, ◌and◌, answered}
 use Rattle.terms.specs.Bytes.{bytes_of, number_of, packed}
 use Rattle.terms.proofs.ChooseLaws.{either_way}
 use Rattle.terms.specs.Numbers.{ACCEPTED}

@@ -1,5 +1,5 @@
 -- The records of a formed table in shape, section by section, are read from the first turn on and give that table. Assumes nothing.
-use Rattle.std.specs.Prelude.{◌≡◌, Bool, false, ltb, eqb}
+use Rattle.std.specs.Prelude.{◌≡◌, Bool, false, ltb, eqb, if◌then◌else◌}
 use Rattle.std.proofs.Math.Path.{refl, sym}
 use Rattle.std.proofs.Common.{ap, ◌∙◌, le_refl, add-one, arith}
 use Rattle.std.proofs.Math.Bool.{true}
@@ -9,7 +9,7 @@ use Rattle.std.proofs.Math.Decide.{ℕ_discrete}
 use Rattle.std.proofs.Math.ListN.{replicate}
 use Rattle.std.proofs.lemmas.List.{length-replicate, get_or-replicate}
 use borrow.Author.Tests.{leb-true, lt-ltb, le-ltb, eq-eqb, ne_eqb}
-use Rattle.terms.specs.Choose.{if◌then◌else◌, ◌and◌, ◌or◌}
+use Rattle.terms.specs.Choose.{◌and◌, ◌or◌}
 use Rattle.terms.specs.Counted.{gather}
 use Rattle.terms.specs.Limits.{NODES, OBJECTS, PLACES, EVENTS, ROOTS, NONE, owner}
 use Rattle.terms.proofs.ListLaws.{filled_none, filled_set, filled_keep, filled_all}

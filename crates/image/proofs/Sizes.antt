@@ -1,5 +1,5 @@
 -- How long an image is: 116 bytes for a table with nothing in it, and no more than 11,508. Assumes nothing.
-use Rattle.std.specs.Prelude.{◌≡◌, Bool, ℕ, zero, suc, ◌+◌, ◌≤◌, ◌<◌, eqb, length}
+use Rattle.std.specs.Prelude.{◌≡◌, Bool, ℕ, zero, suc, ◌+◌, ◌≤◌, ◌<◌, eqb, length, if◌then◌else◌}
 use Rattle.std.proofs.Math.Path.{refl}
 use Rattle.std.proofs.Common.{ap, ◌∙◌, length-append}
 use Rattle.std.proofs.Math.Bool.{true, false}
@@ -7,7 +7,6 @@ use mathlib.Core.List.{List, [], ◌∷◌, ◌++◌}
 use native.Mathlib.Omega.{arith}
 use Rattle.std.proofs.Math.Dec.{leb}
 use borrow.Author.Tests.{leb-true, ne_eqb}
-use Rattle.terms.specs.Choose.{if◌then◌else◌}
 use Rattle.terms.specs.Counted.{every_from, sum_from, sum, gather_from, gather}
 use Rattle.terms.proofs.CountedLaws.{every_at}
 use Rattle.terms.specs.Limits.{NODES, OBJECTS, PLACES, owner}

@@ -1,9 +1,9 @@
 -- What a read and a write leave as it was (document 01, "Saved image"): a refused read hands back the fresh state, and bytes past the image stay;
 -- refused, the image has no bytes, so all of them stay. Assumes nothing.
-use Rattle.std.specs.Prelude.{◌≡◌, refl, Bool, true, false, List, [], ◌∷◌, ℕ, zero, suc, length, drop}
+use Rattle.std.specs.Prelude.{◌≡◌, refl, Bool, true, false, List, [], ◌∷◌, ℕ, zero, suc, length, drop, if◌then◌else◌}
 use Rattle.std.proofs.Math.Seq.{drop-append_seam}
 use Rattle.terms.specs.Bytes.{over}
-use Rattle.terms.specs.Choose.{Refusal, if◌then◌else◌, answered}
+use Rattle.terms.specs.Choose.{Refusal, answered}
 use Rattle.terms.specs.Numbers.{ACCEPTED}
 use Rattle.table.specs.declared.Table.{Table}
 use Rattle.table.specs.Table.{fresh_table}

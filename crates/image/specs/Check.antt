@@ -1,6 +1,6 @@
 -- The check of an image: the reader's tests, record by record, with no table. Definitions only; assumes nothing.
-use Rattle.std.specs.Prelude.{List, ◌++◌, ℕ, zero, suc, length}
-use Rattle.terms.specs.Choose.{if◌then◌else◌, answered}
+use Rattle.std.specs.Prelude.{List, ◌++◌, ℕ, zero, suc, length, if◌then◌else◌}
+use Rattle.terms.specs.Choose.{answered}
 use Rattle.terms.specs.Numbers.{ACCEPTED, SHORT}
 use Rattle.image.specs.declared.RecordKind.{RecordKind}
 use Rattle.image.specs.declared.Turn.{Turn}

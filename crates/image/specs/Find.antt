@@ -1,7 +1,6 @@
 -- What stands at a position of an image, found by a scan over its records and with no table made (document 01, "Saved image"). The scan looks
 -- at the low byte of a record's kind and at its first two keys. Definitions only; assumes nothing.
-use Rattle.std.specs.Prelude.{List, [], ◌∷◌, ℕ, zero, suc, ◌+◌, ltb, eqb, length, drop, get_or, replicate}
-use Rattle.terms.specs.Choose.{if◌then◌else◌}
+use Rattle.std.specs.Prelude.{List, [], ◌∷◌, ℕ, zero, suc, ◌+◌, ltb, eqb, length, drop, get_or, replicate, if◌then◌else◌}
 use Rattle.terms.specs.Limits.{NONE, ROOTS}
 use Rattle.entry.specs.declared.Entry.{Entry}
 use Rattle.entry.specs.declared.Entry.TheVariants as e

@@ -1,6 +1,6 @@
 -- The reader (document 01, "Reader"): record by record, the first test that fails decides. Definitions only; assumes nothing.
-use Rattle.std.specs.Prelude.{not, List, [], ◌∷◌, ◌++◌, ℕ, zero, suc, ◌+◌, ltb, eqb, length, take, drop}
-use Rattle.terms.specs.Choose.{Refusal, if◌then◌else◌, ◌when◌, ◌and◌, answered}
+use Rattle.std.specs.Prelude.{not, List, [], ◌∷◌, ◌++◌, ℕ, zero, suc, ◌+◌, ltb, eqb, length, take, drop, if◌then◌else◌}
+use Rattle.terms.specs.Choose.{Refusal, ◌when◌, ◌and◌, answered}
 use Rattle.terms.specs.Numbers.{ACCEPTED, SHORT, KIND, LENGTH, ORDER, VALUE, TRAIL}
 use Rattle.table.specs.declared.Table.{Table}
 use Rattle.table.specs.Table.{fresh_table}

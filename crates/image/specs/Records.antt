@@ -1,7 +1,6 @@
 -- The kinds of record, with the number of each and the widths of what it holds (document 01, "Saved image", the table). A record is a
 -- payload length, a kind and the payload. Definitions only; assumes nothing.
-use Rattle.std.specs.Prelude.{Bool, true, false, List, [], ◌∷◌, ◌++◌, ℕ, ◌+◌, eqb, replicate}
-use Rattle.terms.specs.Choose.{if◌then◌else◌}
+use Rattle.std.specs.Prelude.{Bool, true, false, List, [], ◌∷◌, ◌++◌, ℕ, ◌+◌, eqb, replicate, if◌then◌else◌}
 use Rattle.terms.specs.Limits.{FIELDS, ROOTS}
 use Rattle.image.specs.declared.RecordKind.{RecordKind}
 use Rattle.image.specs.declared.RecordKind.TheVariants.{Count, Live, NodeRoots, Directory, Remote, Reference, Decrement, End, Unknown}

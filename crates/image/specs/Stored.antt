@@ -1,9 +1,8 @@
 -- Records in a buffer, from a place on: what the buffer is afterwards, and which place comes next. The whole image is made in a buffer with
 -- room for every record that a table could have. Definitions only; assumes nothing.
-use Rattle.std.specs.Prelude.{◌≡◌, List, [], ◌∷◌, ◌++◌, ℕ, ◌+◌, ◌*◌, ◌≤◌, length, take, get_or}
+use Rattle.std.specs.Prelude.{◌≡◌, List, [], ◌∷◌, ◌++◌, ℕ, ◌+◌, ◌*◌, ◌≤◌, length, take, get_or, if◌then◌else◌}
 use Rattle.std.proofs.lemmas.List.Edits.{sets}
 use Rattle.terms.specs.Bytes.{packed}
-use Rattle.terms.specs.Choose.{if◌then◌else◌}
 use Rattle.terms.specs.Counted.{gather}
 use Rattle.terms.specs.Limits.{NODES, OBJECTS, PLACES, owner}
 use Rattle.entry.specs.declared.Entry.{Entry}

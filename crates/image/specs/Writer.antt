@@ -1,7 +1,7 @@
 -- The writer (document 01, "Saved image" and "Writer"): the records of a table in their order, and what becomes of a lent buffer.
 -- Definitions only; assumes nothing.
-use Rattle.std.specs.Prelude.{not, List, [], ◌∷◌, ◌++◌, ℕ, ltb, length}
-use Rattle.terms.specs.Choose.{Refusal, ◌when◌, if◌then◌else◌, answered}
+use Rattle.std.specs.Prelude.{not, List, [], ◌∷◌, ◌++◌, ℕ, ltb, length, if◌then◌else◌}
+use Rattle.terms.specs.Choose.{Refusal, ◌when◌, answered}
 use Rattle.terms.specs.Counted.{gather, one}
 use Rattle.terms.specs.Limits.{NODES, OBJECTS, PLACES, owner}
 use Rattle.terms.specs.Numbers.{ACCEPTED, SHAPE, ROOM}

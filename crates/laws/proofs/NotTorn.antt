@@ -1,12 +1,12 @@
 -- No event is TORN, and none meets a broken shape (`NeverTorn` of specs/Sound.antt), where all is held well and the counts do their part: of SEND,
 -- RECEIVE and SETTLE that the act on the entry is not refused (`CountsWhole`, which the laws on counts give). Assumes nothing.
-use Rattle.std.specs.Prelude.{◌≡◌, Bool, true, false, not, List, [], ◌∷◌, ◌≢◌, ◌⊎◌, eqb, ltb}
+use Rattle.std.specs.Prelude.{◌≡◌, Bool, true, false, not, List, [], ◌∷◌, ◌≢◌, ◌⊎◌, eqb, ltb, if◌then◌else◌}
 use Rattle.std.proofs.Math.Path.{refl}
 use Rattle.std.proofs.Common.{sym, ap, ◌∙◌, inl, inr, arith}
 use Rattle.std.proofs.lemmas.Bool.{false≢true}
 use Prim.Native.Nat.{ℕ, ◌<◌}
 use borrow.Author.Tests.{eqb-false, eqb-true, ltb-true, not-false}
-use Rattle.terms.specs.Choose.{Refusal, if◌then◌else◌, ◌and◌, ◌or◌, answered}
+use Rattle.terms.specs.Choose.{Refusal, ◌and◌, ◌or◌, answered}
 use Rattle.terms.specs.Limits.{EVENTS, NODES, OBJECTS, OWNED, PLACES, ROOTS, owner}
 use Rattle.terms.specs.Numbers.{ACCEPTED, SHAPE, EVENT, ENDED, NOMSG, SELF, EMPTY, AWAY, ROOT, NOROOM, NOENTRY, BUSY, TORN, FULL}
 use Rattle.entry.specs.declared.Entry.{Entry}

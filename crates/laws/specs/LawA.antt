@@ -1,7 +1,7 @@
 -- Law A: RC of each entry is what hangs under it (document 01, law A; where document 000, section 4.1, differs, A decides).
 -- Definitions only; assumes nothing.
-use Rattle.std.specs.Prelude.{◌≡◌, not, ℕ, ◌+◌, ◌<◌, eqb}
-use Rattle.terms.specs.Choose.{if◌then◌else◌, ◌and◌}
+use Rattle.std.specs.Prelude.{◌≡◌, not, ℕ, ◌+◌, ◌<◌, eqb, if◌then◌else◌}
+use Rattle.terms.specs.Choose.{◌and◌}
 use Rattle.terms.specs.Counted.{one, sum}
 use Rattle.terms.specs.Limits.{NODES, OBJECTS, PLACES, owner}
 use Rattle.entry.specs.Entry.{rc_of, weight_under}

@@ -1,6 +1,6 @@
 -- Law B: the return counts of an object and its references on their way home (document 01, law B). Definitions only; assumes nothing.
-use Rattle.std.specs.Prelude.{◌≡◌, Bool, false, ℕ, zero, suc, ◌<◌, eqb, ℤ, pos, ◌+ℤ◌}
-use Rattle.terms.specs.Choose.{if◌then◌else◌, ◌and◌}
+use Rattle.std.specs.Prelude.{◌≡◌, Bool, false, ℕ, zero, suc, ◌<◌, eqb, ℤ, pos, ◌+ℤ◌, if◌then◌else◌}
+use Rattle.terms.specs.Choose.{◌and◌}
 use Rattle.terms.specs.Counted.{how_many}
 use Rattle.terms.specs.Limits.{NODES, OBJECTS, PLACES, owner}
 use Rattle.entry.specs.Entry.{msg_ctr_of}

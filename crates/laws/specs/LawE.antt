@@ -1,7 +1,7 @@
 -- Law E: once nobody uses an object, its directory comes clear after exactly the decrements that were due, and until then one more is
 -- always possible (document 01, law E). Definitions only; assumes nothing.
-use Rattle.std.specs.Prelude.{◌≡◌, ◌⊎◌, ◌↔◌, Bool, true, false, not, List, [], ◌∷◌, ℕ, ◌+◌, ◌<◌, eqb}
-use Rattle.terms.specs.Choose.{Refusal, if◌then◌else◌, ◌and◌, ◌or◌}
+use Rattle.std.specs.Prelude.{◌≡◌, ◌⊎◌, ◌↔◌, Bool, true, false, not, List, [], ◌∷◌, ℕ, ◌+◌, ◌<◌, eqb, if◌then◌else◌}
+use Rattle.terms.specs.Choose.{Refusal, ◌and◌, ◌or◌}
 use Rattle.terms.specs.Counted.{holds, how_many}
 use Rattle.terms.specs.Limits.{NODES, OBJECTS, PLACES, owner}
 use Rattle.terms.specs.Numbers.{ENDED, FULL}

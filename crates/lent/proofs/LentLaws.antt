@@ -1,11 +1,11 @@
 -- What the settling of a lent entry says (`lent`): a refused settling leaves the entry as it was; with all numbers in range it is the settling
 -- of every entry (`settled`, AtNode.antt of crate entry), refused just where n is above RC or MsgCtr + m leaves its range. Assumes nothing.
-use Rattle.std.specs.Prelude.{◌≡◌, Bool, false, not, ◌-◌, leb, ltb}
+use Rattle.std.specs.Prelude.{◌≡◌, Bool, false, not, ◌-◌, leb, ltb, if◌then◌else◌}
 use Rattle.std.proofs.Math.Path.{refl}
 use Rattle.std.proofs.Common.{sym, ◌∙◌}
 use Rattle.std.proofs.Math.Bool.{true}
 use Rattle.std.proofs.lemmas.Bool.{false≢true}
-use Rattle.terms.specs.Choose.{if◌then◌else◌, ◌and◌}
+use Rattle.terms.specs.Choose.{◌and◌}
 use Rattle.terms.proofs.ChooseLaws.{and_passes}
 use Rattle.terms.specs.Limits.{MOST, NODES}
 use Rattle.terms.specs.Numbers.{ACCEPTED, TORN}

@@ -1,6 +1,6 @@
 -- The plans of SEND, RECEIVE, SETTLE and DROP are right for the table that the image is of (document 01, "Events"): plan and rule refuse for
 -- the same and change the same. Assumes nothing.
-use Rattle.std.specs.Prelude.{◌≡◌, Bool, false, ℕ, ◌+◌, ◌<◌, get_or}
+use Rattle.std.specs.Prelude.{◌≡◌, Bool, false, ℕ, ◌+◌, ◌<◌, get_or, if◌then◌else◌}
 use Rattle.std.proofs.Math.Path.{refl, ap, subst}
 use Rattle.std.proofs.Common.{sym, ◌∙◌}
 use Rattle.std.proofs.Math.Bool.{true, not}
@@ -8,7 +8,7 @@ use mathlib.Core.List.{List, [], ◌∷◌}
 use native.Mathlib.Omega.{arith}
 use Rattle.std.proofs.Math.Dec.{eqb}
 use borrow.Author.Tests.{ltb-true, eq-eqb, ne_eqb, not-false}
-use Rattle.terms.specs.Choose.{if◌then◌else◌, ◌when◌, ◌and◌}
+use Rattle.terms.specs.Choose.{◌when◌, ◌and◌}
 use Rattle.terms.specs.Limits.{NODES, OBJECTS, PLACES, ROOTS, owner}
 use Rattle.terms.specs.Numbers.{SELF, EMPTY, TORN, FULL, ROOT, NOMSG, NOENTRY, BUSY}
 use Rattle.entry.specs.declared.Entry.{Entry}

@@ -1,6 +1,6 @@
 -- Changes of records picked by a test, one at most for each number of a row: in order, standing, outside of them, and as changes of bytes.
 -- Assumes nothing.
-use Rattle.std.specs.Prelude.{◌≡◌, Bool}
+use Rattle.std.specs.Prelude.{◌≡◌, Bool, if◌then◌else◌}
 use Rattle.std.proofs.Math.Path.{refl}
 use Rattle.std.proofs.Math.Bool.{true, false}
 use Rattle.std.proofs.lemmas.Bool.{false≢true}
@@ -8,7 +8,6 @@ use mathlib.Core.List.{List, [], ◌∷◌, ◌++◌}
 use Prim.Native.Nat.{ℕ, zero, suc, ◌+◌, ◌≤◌, ◌<◌}
 use Rattle.std.proofs.Math.Decide.{ℕ_discrete}
 use Rattle.std.proofs.Common.{arith}
-use Rattle.terms.specs.Choose.{if◌then◌else◌}
 use Rattle.terms.specs.Counted.{list_from, gather_from}
 use Rattle.table.specs.declared.Table.{Table}
 use Rattle.image.specs.Spots.{Spot, spot_position, record_at}

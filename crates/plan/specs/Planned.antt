@@ -1,7 +1,7 @@
 -- What a plan has to be: the answer and the deed are those of the event on the table, and its changes make the table's image of the old one.
 -- Definitions, and the law by which plan and rule are compared refusal by refusal. Assumes nothing.
-use Rattle.std.specs.Prelude.{◌≡◌, refl, Bool, true, false, List, [], ◌∷◌, ℕ, suc, ◌+◌}
-use Rattle.terms.specs.Choose.{Refusal, if◌then◌else◌, answered}
+use Rattle.std.specs.Prelude.{◌≡◌, refl, Bool, true, false, List, [], ◌∷◌, ℕ, suc, ◌+◌, if◌then◌else◌}
+use Rattle.terms.specs.Choose.{Refusal, answered}
 use Rattle.terms.specs.Numbers.{ACCEPTED}
 use Rattle.image.specs.declared.Held.{Held}
 use Rattle.image.specs.Find.{offset, held_records}

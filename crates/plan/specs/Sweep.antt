@@ -1,7 +1,7 @@
 -- COLLECT on an image, asked where it lies (document 01, COLLECT): what of the rule is asked of the bytes, what is decided, and the changes that
 -- follow. Definitions only; assumes nothing.
-use Rattle.std.specs.Prelude.{Bool, not, List, [], ◌∷◌, ◌++◌, ℕ, ◌+◌, ◌*◌, ltb}
-use Rattle.terms.specs.Choose.{if◌then◌else◌, ◌when◌, ◌and◌, answered}
+use Rattle.std.specs.Prelude.{Bool, not, List, [], ◌∷◌, ◌++◌, ℕ, ◌+◌, ◌*◌, ltb, if◌then◌else◌}
+use Rattle.terms.specs.Choose.{◌when◌, ◌and◌, answered}
 use Rattle.terms.specs.Counted.{holds, how_many, list}
 use Rattle.terms.specs.Limits.{NODES, OBJECTS, OWNED}
 use Rattle.terms.specs.Numbers.{ACCEPTED, EVENT, TORN}

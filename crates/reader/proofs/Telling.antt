@@ -1,4 +1,5 @@
 -- What the record at the front tells, by its frame and its position as the code tries them. Assumes nothing.
+use Rattle.std.specs.Prelude.{if◌then◌else◌}
 use mathlib.Core.Path.{◌≡◌, refl}
 use mathlib.Core.Bool.{Bool, true, false}
 use mathlib.Core.List.{List, ◌∷◌, []}
@@ -8,7 +9,6 @@ use borrow.Author.Tests.{eq-eqb, ne_eqb}
 use lib.Dec.{eqb}
 use lib.ListN.{length, drop, length-drop}
 use lib.Seq.{drop-drop}
-use Rattle.terms.specs.Choose.{if◌then◌else◌}
 use Rattle.image.specs.declared.Found.{Found}
 use Rattle.image.specs.declared.Frame.{Frame}
 use Rattle.image.specs.declared.Frame.TheVariants.{Refused, Whole}

@@ -1,4 +1,5 @@
 -- Numbers in decimal: the last digit taken off, and how many digits there are at most. Assumes nothing.
+use Rattle.std.specs.Prelude.{if◌then◌else◌}
 use mathlib.Core.Path.{◌≡◌, sym, ap, ◌∙◌}
 use mathlib.Core.List.{List, [], ◌∷◌, ◌++◌}
 use Prim.Native.Nat.{ℕ, zero, suc, ◌+◌, ◌/◌, ◌%◌, ◌^◌, ◌<◌, ◌≤◌}
@@ -8,7 +9,6 @@ use native.Mathlib.Omega.{arith}
 use lib.Dec.{ltb}
 use lib.ListN.{length, set, length-append}
 use borrow.Author.Tests.{lt-ltb, le-ltb}
-use Rattle.terms.specs.Choose.{if◌then◌else◌}
 use Rattle.run.specs.Buffer.{Room, Wrote}
 use Rattle.run.specs.Text.{decimal_in, decimal, digit}
 use Rattle.run.proofs.Written.{room_front, room_rest, wrote_both, wrote_byte}

@@ -1,4 +1,5 @@
 -- A run record by record: what is still to be told, from the records that are left, makes the whole with what was written. Assumes nothing.
+use Rattle.std.specs.Prelude.{if◌then◌else◌}
 use mathlib.Core.Path.{◌≡◌, refl, sym, ap, ◌∙◌}
 use mathlib.Core.Bool.{Bool, true, false, not}
 use mathlib.Core.List.{List, ◌++◌}
@@ -10,7 +11,6 @@ use lib.Dec.{eqb, ltb}
 use borrow.Author.Tests.{ltb-false}
 use lib.ListN.{length, drop, length-drop}
 use lib.Seq.{drop-drop}
-use Rattle.terms.specs.Choose.{if◌then◌else◌}
 use Rattle.terms.specs.Numbers.{ACCEPTED}
 use Rattle.step.specs.declared.Event.{Event}
 use Rattle.step.specs.EventRecord.{RECORD, event_in, states_event}

@@ -1,7 +1,6 @@
 -- What stands at the front of a stream of event records (document 01, "One run in full": a record whose length isn't 4, a cut record).
 -- Definitions only; assumes nothing.
-use Rattle.std.specs.Prelude.{not, List, ℕ, ltb, eqb, length}
-use Rattle.terms.specs.Choose.{if◌then◌else◌}
+use Rattle.std.specs.Prelude.{not, List, ℕ, ltb, eqb, length, if◌then◌else◌}
 use Rattle.step.specs.EventRecord.{RECORD, event_in, states_event}
 use Rattle.run.specs.declared.Next.{Next}
 use Rattle.run.specs.declared.Next.TheVariants.{Nothing, Broken, Found}

@@ -1,8 +1,7 @@
 -- A run into a lent buffer: what comes back, and what the buffer is afterwards. The buffer has room for the longest text that a run can
 -- print, or nothing is written. Definitions only; assumes nothing.
-use Rattle.std.specs.Prelude.{◌≡◌, Bool, List, ℕ, ◌+◌, ◌*◌, ltb, length}
+use Rattle.std.specs.Prelude.{◌≡◌, Bool, List, ℕ, ◌+◌, ◌*◌, ltb, length, if◌then◌else◌}
 use Rattle.terms.specs.Bytes.{over}
-use Rattle.terms.specs.Choose.{if◌then◌else◌}
 use Rattle.terms.specs.Numbers.{ACCEPTED, ROOM}
 use Rattle.run.specs.declared.Next.{Next}
 use Rattle.run.specs.declared.Progress.{Progress}

@@ -1,8 +1,7 @@
 -- What a caller of a run may count on: the text that came back lies inside the buffer. Assumes nothing.
-use Rattle.std.specs.Prelude.{Bool, true, false, List, ℕ, ◌≤◌, length}
+use Rattle.std.specs.Prelude.{Bool, true, false, List, ℕ, ◌≤◌, length, if◌then◌else◌}
 use Rattle.std.proofs.Common.{arith, length-append}
 use Rattle.terms.specs.Bytes.{over}
-use Rattle.terms.specs.Choose.{if◌then◌else◌}
 use Rattle.run.specs.Ran.{is_short, ran, run_bytes, told, untold}
 use Rattle.run.specs.Run.{run_text}
 

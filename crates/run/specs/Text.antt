@@ -1,8 +1,7 @@
 -- Text as bytes: ASCII, and numbers in decimal (document 01, "One run in full"). Definitions only; assumes nothing.
-use Rattle.std.specs.Prelude.{List, [], ◌∷◌, ◌++◌, ℕ, zero, suc, ◌+◌, ◌/◌, ◌%◌, ltb}
+use Rattle.std.specs.Prelude.{List, [], ◌∷◌, ◌++◌, ℕ, zero, suc, ◌+◌, ◌/◌, ◌%◌, ltb, if◌then◌else◌}
 use Prim.Native.Char.{code}
 use Prim.Native.String as string
-use Rattle.terms.specs.Choose.{if◌then◌else◌}
 
 -- the bytes of a text that is written in ASCII
 abbrev pub ascii : string.String → List ℕ

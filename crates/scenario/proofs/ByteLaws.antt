@@ -1,4 +1,5 @@
 -- The readers of a line, one byte further: what the definitions say of the bytes from place i on, by the byte that stands there. Assumes nothing.
+use Rattle.std.specs.Prelude.{if◌then◌else◌}
 use mathlib.Core.Path.{◌≡◌, refl, sym, ◌∙◌}
 use mathlib.Core.Bool.{Bool, true, false, not}
 use mathlib.Core.List.{List, [], ◌∷◌}
@@ -8,7 +9,6 @@ use native.Mathlib.Omega.{arith}
 use borrow.Author.Tests.{le-leb, lt-leb, eq-eqb, ne_eqb, not-true, not-false}
 use lib.ListN.{length, get_or, take, drop, drop_of_length-le}
 use lib.Seq.{drop-cons}
-use Rattle.terms.specs.Choose.{if◌then◌else◌}
 use Rattle.scenario.specs.declared.numbers.Read.{Read}
 use Rattle.scenario.specs.declared.numbers.Read.TheVariants.{Found, Bad as Unread}
 use Rattle.scenario.specs.declared.Line.{Line}

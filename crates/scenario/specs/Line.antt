@@ -1,7 +1,7 @@
 -- One line of a scenario, as a person writes it: nothing, a comment, or an event as five decimal numbers, kind a b c d. Leading zeros are
 -- allowed, signs are not. Definitions only; assumes nothing.
-use Rattle.std.specs.Prelude.{Bool, true, false, List, [], ◌∷◌, ℕ, ◌+◌, ◌-◌, ◌*◌, eqb, leb, length, get_or, take}
-use Rattle.terms.specs.Choose.{if◌then◌else◌, ◌and◌, ◌or◌}
+use Rattle.std.specs.Prelude.{Bool, true, false, List, [], ◌∷◌, ℕ, ◌+◌, ◌-◌, ◌*◌, eqb, leb, length, get_or, take, if◌then◌else◌}
+use Rattle.terms.specs.Choose.{◌and◌, ◌or◌}
 use Rattle.step.specs.Event.{event}
 use Rattle.scenario.specs.declared.Line.{Line}
 use Rattle.scenario.specs.declared.Line.TheVariants.{Nothing, One, Bad}

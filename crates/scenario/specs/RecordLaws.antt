@@ -1,9 +1,8 @@
 -- Laws of specs/Records.antt: the bytes of a record and its way back to the event, lengths, and that what is written fits. Assumes nothing.
-use Rattle.std.specs.Prelude.{◌≡◌, refl, Bool, true, false, List, [], ◌∷◌, ◌++◌, ℕ, ◌+◌, ◌*◌, ◌/◌, ◌%◌, ◌<◌, ◌≤◌, ltb, length}
+use Rattle.std.specs.Prelude.{◌≡◌, refl, Bool, true, false, List, [], ◌∷◌, ◌++◌, ℕ, ◌+◌, ◌*◌, ◌/◌, ◌%◌, ◌<◌, ◌≤◌, ltb, length, if◌then◌else◌}
 use Rattle.std.proofs.Common.{◌∙◌, append-nil, append_assoc, ltb-false, length-append}
 use Rattle.std.proofs.Math.Nat.{mod-eq_of_lt}
 use native.Mathlib.Omega.{arith}
-use Rattle.terms.specs.Choose.{if◌then◌else◌}
 use Rattle.step.specs.declared.Event.{Event}
 use Rattle.step.specs.EventRecord.{OPERANDS, RECORD, event_in, is_record}
 use Rattle.scenario.specs.Text.{Meaning, tells, bad_at, meaning_of}

@@ -1,8 +1,7 @@
 -- The event records of a scenario (document 01, "Saved image": payload length, kind, payload), and what is written of them into a lent buffer.
 -- Definitions only; assumes nothing.
-use Rattle.std.specs.Prelude.{List, [], ◌∷◌, ◌++◌, ℕ, ltb, length}
+use Rattle.std.specs.Prelude.{List, [], ◌∷◌, ◌++◌, ℕ, ltb, length, if◌then◌else◌}
 use Rattle.terms.specs.Bytes.{over, packed}
-use Rattle.terms.specs.Choose.{if◌then◌else◌}
 use Rattle.terms.specs.Numbers.{ACCEPTED, EVENT, ROOM}
 use Rattle.step.specs.declared.Event.{Event}
 use Rattle.step.specs.EventRecord.{OPERANDS, record_widths}

@@ -1,7 +1,6 @@
 -- A scenario: lines between line feeds, numbered from 1. Its meaning is a list of events, or the number of its first bad line.
 -- Definitions only; assumes nothing.
-use Rattle.std.specs.Prelude.{◌≡◌, Bool, true, false, List, [], ◌∷◌, ◌++◌, ℕ, suc, ◌+◌, ◌-◌, ◌≤◌, eqb, length, take, drop}
-use Rattle.terms.specs.Choose.{if◌then◌else◌}
+use Rattle.std.specs.Prelude.{◌≡◌, Bool, true, false, List, [], ◌∷◌, ◌++◌, ℕ, suc, ◌+◌, ◌-◌, ◌≤◌, eqb, length, take, drop, if◌then◌else◌}
 use Rattle.step.specs.declared.Event.{Event}
 use Rattle.scenario.specs.declared.Line.{Line}
 use Rattle.scenario.specs.declared.Line.TheVariants.{Nothing, One, Bad}

@@ -1,8 +1,7 @@
 -- The same on the bytes of an image: a scan over records finds a position, and the image of a changed table is the old image with the bytes
 -- at some positions replaced, copied once from front to end. Assumes nothing.
-use Rattle.std.specs.Prelude.{◌≡◌, refl, Bool, true, false, List, [], ◌∷◌, ◌++◌, ℕ, zero, suc, ◌+◌, ◌≤◌, ◌<◌, ltb, length, take, drop}
+use Rattle.std.specs.Prelude.{◌≡◌, refl, Bool, true, false, List, [], ◌∷◌, ◌++◌, ℕ, zero, suc, ◌+◌, ◌≤◌, ◌<◌, ltb, length, take, drop, if◌then◌else◌}
 use Rattle.std.proofs.Common.{sym, ap, ◌∙◌, arith, length-append, take_at, drop_at, ltb-true, le-ltb}
-use Rattle.terms.specs.Choose.{if◌then◌else◌}
 use Rattle.table.specs.declared.Table.{Table}
 use Rattle.image.specs.declared.Turn.{Turn}
 use Rattle.image.proofs.BytesLaws.{Fit}

@@ -1,11 +1,10 @@
 -- The changes of each kind of event but COLLECT, as its rule makes them (document 01, "Events"). MOVE, CLEAR and LOAD are root-differs of
 -- Events.antt as it stands. Assumes nothing.
-use Rattle.std.specs.Prelude.{◌≡◌, Bool, ℕ, ◌<◌, eqb, set}
+use Rattle.std.specs.Prelude.{◌≡◌, Bool, ℕ, ◌<◌, eqb, set, if◌then◌else◌}
 use Rattle.std.proofs.Math.Path.{refl}
 use Rattle.std.proofs.Math.Bool.{true, false}
 use mathlib.Core.List.{[], ◌∷◌}
 use Rattle.std.proofs.Common.{arith, eq-eqb}
-use Rattle.terms.specs.Choose.{if◌then◌else◌}
 use Rattle.terms.specs.Limits.{NODES, OBJECTS, OWNED, PLACES, owner}
 use Rattle.entry.specs.declared.ReturnCount.{ReturnCount}
 use Rattle.entry.specs.declared.Weight.{Weight}

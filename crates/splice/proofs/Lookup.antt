@@ -1,8 +1,7 @@
 -- What the records of a table tell, each asked at one position: the count, an object, the roots of a node, an entry, a message
 -- (document 01, "Saved image", the payloads), and in how many bytes. Assumes nothing.
-use Rattle.std.specs.Prelude.{◌≡◌, refl, Bool, true, false, [], ◌∷◌, ℕ, ◌<◌, eqb, length}
+use Rattle.std.specs.Prelude.{◌≡◌, refl, Bool, true, false, [], ◌∷◌, ℕ, ◌<◌, eqb, length, if◌then◌else◌}
 use Rattle.std.proofs.Common.{◌∙◌, eq-eqb, ne_eqb}
-use Rattle.terms.specs.Choose.{if◌then◌else◌}
 use Rattle.terms.specs.Limits.{NODES, OBJECTS, PLACES, owner}
 use Rattle.entry.specs.declared.Entry.{Entry}
 use Rattle.entry.specs.declared.Entry.TheVariants.{Absent, AtOwner, Elsewhere}

@@ -1,6 +1,6 @@
 -- A scan that goes on behind what one to an earlier position found: over any bytes, accepted or not, it finds what a scan from the start finds.
 -- Assumes nothing.
-use Rattle.std.specs.Prelude.{◌≡◌, Bool, true, ◌⊎◌, ℕ, suc, ◌+◌, ◌≤◌, ◌<◌, eqb, drop, get_or}
+use Rattle.std.specs.Prelude.{◌≡◌, Bool, true, ◌⊎◌, ℕ, suc, ◌+◌, ◌≤◌, ◌<◌, eqb, drop, get_or, if◌then◌else◌}
 use Rattle.std.proofs.Math.Path.{refl, sym, ap}
 use Rattle.std.proofs.Common.{◌∙◌, inl, inr, ⊎_elim}
 use Rattle.std.proofs.Math.Bool.{false}
@@ -9,7 +9,7 @@ use native.Mathlib.Omega.{arith}
 use Rattle.std.proofs.Math.ListN.{length, length-drop}
 use Rattle.std.proofs.Math.Seq.{drop-drop}
 use borrow.Author.Tests.{ltb-false, lt-ltb, le-ltb, eqb-true, not-false}
-use Rattle.terms.specs.Choose.{Refusal, if◌then◌else◌, answered}
+use Rattle.terms.specs.Choose.{Refusal, answered}
 use Rattle.image.specs.declared.Found.{Found}
 use Rattle.image.specs.declared.Frame.{Frame}
 use Rattle.image.specs.declared.Frame.TheVariants.{Refused, Whole}

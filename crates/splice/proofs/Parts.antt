@@ -1,9 +1,8 @@
 -- Records in the order of their positions (document 01, "Order"): those before a position, those from it on, and what stands at it. Assumes nothing.
-use Rattle.std.specs.Prelude.{◌≡◌, Bool, true, false, ℕ, suc, ◌≤◌, ◌<◌, ltb, length}
+use Rattle.std.specs.Prelude.{◌≡◌, Bool, true, false, ℕ, suc, ◌≤◌, ◌<◌, ltb, length, if◌then◌else◌}
 use Rattle.std.proofs.Math.Path.{refl}
 use Rattle.std.proofs.Common.{sym, ap, subst, ◌∙◌, arith, ltb-true, lt-ltb, le-ltb}
 use mathlib.Core.List.{List, [], ◌∷◌, ◌++◌, append-nil}
-use Rattle.terms.specs.Choose.{if◌then◌else◌}
 use Rattle.image.specs.Records.{Record}
 use Rattle.splice.specs.Parts.{place_of, before, from, found}
 

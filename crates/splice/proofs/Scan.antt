@@ -1,12 +1,11 @@
 -- The scan as a loop makes it, record by record, over any bytes; one to a later position goes on where one to an earlier position stops.
 -- Assumes nothing.
-use Rattle.std.specs.Prelude.{◌≡◌, Bool, List, [], ◌∷◌, ltb, length, drop}
+use Rattle.std.specs.Prelude.{◌≡◌, Bool, List, [], ◌∷◌, ltb, length, drop, if◌then◌else◌}
 use Rattle.std.proofs.Math.Path.{refl, ap}
 use Rattle.std.proofs.Common.{sym, ◌∙◌, arith, drop-drop, ltb-true, lt-ltb}
 use Rattle.std.proofs.Math.Bool.{true, false}
 use Prim.Native.Nat.{ℕ, zero, suc, ◌+◌, ◌≤◌}
 use Rattle.std.proofs.Math.ListN.{length-drop}
-use Rattle.terms.specs.Choose.{if◌then◌else◌}
 use Rattle.image.specs.Find.{front_place, front_size, KEYED, passed_by, offset}
 
 no_bytes : (l : List ℕ) → length l ≤ 0 → l ≡ []

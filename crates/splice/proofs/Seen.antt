@@ -1,12 +1,11 @@
 -- What a scan over the bytes of an image finds at a position: the record that the table has there, or none. Assumes nothing.
-use Rattle.std.specs.Prelude.{◌≡◌, refl, Bool, true, false, ltb, eqb}
+use Rattle.std.specs.Prelude.{◌≡◌, refl, Bool, true, false, ltb, eqb, if◌then◌else◌}
 use Rattle.std.proofs.Common.{sym, ◌∙◌, arith, ltb-false, lt-ltb, le-ltb, eqb-true}
 use Rattle.std.proofs.Math.Path.{ap}
 use mathlib.Core.List.{List, [], ◌∷◌}
 use Prim.Native.Nat.{ℕ, suc, ◌+◌, ◌≤◌}
 use Rattle.std.proofs.Math.ListN.{length}
 use Rattle.std.proofs.lemmas.Bool.{eqb-false}
-use Rattle.terms.specs.Choose.{if◌then◌else◌}
 use Rattle.table.specs.declared.Table.{Table}
 use Rattle.table.specs.Formed.{Formed}
 use Rattle.table.specs.Shape.{fits_table}

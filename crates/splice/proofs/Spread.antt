@@ -1,6 +1,6 @@
 -- The records of a table, spot by spot in the order of the image (document 01, "Order"): what is proved of a list of rising spots holds of
 -- every table. Assumes nothing.
-use Rattle.std.specs.Prelude.{◌≡◌, Bool, false, leb, length}
+use Rattle.std.specs.Prelude.{◌≡◌, Bool, false, leb, length, if◌then◌else◌}
 use Rattle.std.proofs.Math.Path.{refl, sym, ap}
 use Rattle.std.proofs.Common.{◌∙◌, arith}
 use Rattle.std.proofs.Math.Logic.{⊎_elim}
@@ -10,7 +10,7 @@ use mathlib.Core.List.{List, [], ◌∷◌, ◌++◌, append_assoc, Memᴰ}
 use Prim.Native.Nat.{ℕ, zero, suc, ◌+◌, ◌*◌, ◌≤◌, ◌<◌}
 use Rattle.std.proofs.Math.Decide.{ℕ_discrete}
 use borrow.Author.Tests.{leb-true}
-use Rattle.terms.specs.Choose.{if◌then◌else◌, ◌and◌}
+use Rattle.terms.specs.Choose.{◌and◌}
 use Rattle.terms.proofs.ChooseLaws.{and_passes}
 use Rattle.terms.specs.Counted.{list_from, list, gather_from, gather}
 use Rattle.terms.specs.Limits.{NODES, OBJECTS, PLACES, owner}

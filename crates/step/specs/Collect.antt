@@ -1,6 +1,6 @@
 -- COLLECT P: local collection (document 01, COLLECT). Definitions only; assumes nothing.
-use Rattle.std.specs.Prelude.{Bool, not, List, [], ◌∷◌, ◌++◌, ℕ, ◌+◌, ◌*◌}
-use Rattle.terms.specs.Choose.{if◌then◌else◌, ◌when◌, ◌and◌, ◌or◌}
+use Rattle.std.specs.Prelude.{Bool, not, List, [], ◌∷◌, ◌++◌, ℕ, ◌+◌, ◌*◌, if◌then◌else◌}
+use Rattle.terms.specs.Choose.{◌when◌, ◌and◌, ◌or◌}
 use Rattle.terms.specs.Counted.{all, every, holds, how_many, list}
 use Rattle.terms.specs.Limits.{OBJECTS, OWNED}
 use Rattle.terms.specs.Numbers.{TORN}

@@ -1,13 +1,13 @@
 -- What COLLECT's parts on the heap and by marks (specs/CollectParts.antt) come to in the definition of specs/Collect.antt, of a table whose
 -- arrays have their lengths. Assumes nothing.
-use Rattle.std.specs.Prelude.{◌≡◌, refl, Bool, true, false, not, ℕ, ◌<◌, ◌≤◌, ltb, length}
+use Rattle.std.specs.Prelude.{◌≡◌, refl, Bool, true, false, not, ℕ, ◌<◌, ◌≤◌, ltb, length, if◌then◌else◌}
 use Rattle.std.proofs.Common.{sym, ◌∙◌, arith, ltb-true, ltb-false}
 use Rattle.std.proofs.Math.Path.{ap, fun_ext}
 use Rattle.std.proofs.lemmas.Bool.{false≢true}
 use mathlib.Core.List.{List}
 use Rattle.std.proofs.Math.ListN.{get_or-eq_default}
 use Rattle.std.proofs.lemmas.List.{set-get_or}
-use Rattle.terms.specs.Choose.{if◌then◌else◌, ◌and◌, ◌or◌}
+use Rattle.terms.specs.Choose.{◌and◌, ◌or◌}
 use Rattle.terms.specs.Counted.{all, every, holds, list}
 use Rattle.terms.specs.Limits.{OBJECTS}
 use Rattle.terms.proofs.ListLaws.{get_d_list, length_list}

@@ -1,7 +1,7 @@
 -- Parts of COLLECT as the code finds them: on the heap alone, and by marks for what the table's entries say. Each comes to the definition
 -- of specs/Collect.antt; specs/CollectLaws.antt has what isn't so by computation. Definitions only; assumes nothing.
-use Rattle.std.specs.Prelude.{Bool, not, ◌++◌, ℕ}
-use Rattle.terms.specs.Choose.{if◌then◌else◌, ◌and◌, ◌or◌}
+use Rattle.std.specs.Prelude.{Bool, not, ◌++◌, ℕ, if◌then◌else◌}
+use Rattle.terms.specs.Choose.{◌and◌, ◌or◌}
 use Rattle.terms.specs.Counted.{all, every, list}
 use Rattle.terms.specs.Limits.{OBJECTS}
 use Rattle.entry.specs.Entry.{is_present}

@@ -1,6 +1,6 @@
 -- The kinds of event and the range of each operand (document 01, "Events", the table). Definitions only; assumes nothing.
-use Rattle.std.specs.Prelude.{Bool, ℕ, ltb, eqb}
-use Rattle.terms.specs.Choose.{if◌then◌else◌, ◌and◌}
+use Rattle.std.specs.Prelude.{Bool, ℕ, ltb, eqb, if◌then◌else◌}
+use Rattle.terms.specs.Choose.{◌and◌}
 use Rattle.terms.specs.Limits.{NODES, OBJECTS, FIELDS, ROOTS, PLACES}
 use Rattle.step.specs.declared.Event.{Event}
 use Rattle.step.specs.declared.Kind.{Kind}

@@ -1,7 +1,7 @@
 -- RECEIVE s r: the reference in s reaches its node, into the empty root r of that node (document 01, RECEIVE; document 000, section 4.5).
 -- Definitions only; assumes nothing.
-use Rattle.std.specs.Prelude.{Bool, true, not, [], ◌∷◌, ℕ, eqb}
-use Rattle.terms.specs.Choose.{if◌then◌else◌, ◌when◌, ◌or◌}
+use Rattle.std.specs.Prelude.{Bool, true, not, [], ◌∷◌, ℕ, eqb, if◌then◌else◌}
+use Rattle.terms.specs.Choose.{◌when◌, ◌or◌}
 use Rattle.terms.specs.Numbers.{NOMSG, ROOT, TORN}
 use Rattle.entry.specs.declared.Entry.{Entry}
 use Rattle.entry.specs.declared.Entry.TheVariants.{Absent, AtOwner, Elsewhere}

@@ -1,7 +1,7 @@
 -- One step for every table and every event (document 01, "Numbers given for a refused event"): the refusals that any event may meet,
 -- then those of its kind, in the order in which they are tried, then its effect, which is counted. Definitions only; assumes nothing.
-use Rattle.std.specs.Prelude.{not, List, [], ◌∷◌, ◌++◌, ℕ, ◌+◌, ltb}
-use Rattle.terms.specs.Choose.{Refusal, if◌then◌else◌, ◌when◌, answered}
+use Rattle.std.specs.Prelude.{not, List, [], ◌∷◌, ◌++◌, ℕ, ◌+◌, ltb, if◌then◌else◌}
+use Rattle.terms.specs.Choose.{Refusal, ◌when◌, answered}
 use Rattle.terms.specs.Limits.{EVENTS}
 use Rattle.terms.specs.Numbers.{SHAPE, EVENT, ENDED}
 use Rattle.table.specs.declared.Table.{Table}

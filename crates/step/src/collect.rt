@@ -1,6 +1,6 @@
 // COLLECT P: objects of P that nothing starts from or reaches stop being live, and remote entries at P that nothing holds get Presence false.
-ghost use Rattle.std.specs.Prelude.{◌≡◌, not, [], ◌<◌};
-ghost use Rattle.terms.specs.Choose.{if◌then◌else◌, ◌or◌};
+ghost use Rattle.std.specs.Prelude.{◌≡◌, not, [], ◌<◌, if◌then◌else◌};
+ghost use Rattle.terms.specs.Choose.{◌or◌};
 ghost use Rattle.terms.specs.Counted.{all, every, holds, how_many, list};
 ghost use Rattle.terms.specs.Limits.{NODES, OBJECTS};
 ghost use Rattle.entry.specs.declared.Entry.TheVariants.{Absent};

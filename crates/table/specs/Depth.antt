@@ -1,6 +1,6 @@
 -- How far the owner is along Parent, and the report of it (document 01, law C). Definitions only; assumes nothing.
-use Rattle.std.specs.Prelude.{ℕ, zero, suc, ◌+◌, ltb}
-use Rattle.terms.specs.Choose.{if◌then◌else◌, ◌and◌}
+use Rattle.std.specs.Prelude.{ℕ, zero, suc, ◌+◌, ltb, if◌then◌else◌}
+use Rattle.terms.specs.Choose.{◌and◌}
 use Rattle.terms.specs.Limits.{NODES, OBJECTS, STEPS, UNREACHED}
 use Rattle.entry.specs.declared.Entry.{Entry}
 use Rattle.entry.specs.declared.Entry.TheVariants.{Absent, AtOwner, Elsewhere}

@@ -1,8 +1,8 @@
 -- What a choice tells: "and", "or", and one of two by a test (specs/Choose.antt). Assumes nothing.
-use Rattle.std.specs.Prelude.{◌≡◌, refl, Bool, true, false, ◌↔◌, ◌⊎◌}
+use Rattle.std.specs.Prelude.{◌≡◌, refl, Bool, true, false, ◌↔◌, ◌⊎◌, if◌then◌else◌}
 use Rattle.std.proofs.lemmas.Bool.{false≢true}
 use Rattle.std.proofs.Common.{inl, inr, ⊎_elim}
-use Rattle.terms.specs.Choose.{if◌then◌else◌, ◌and◌, ◌or◌}
+use Rattle.terms.specs.Choose.{◌and◌, ◌or◌}
 
 -- "and" passes exactly where both pass
 pub and_passes : (a b : Bool) → ((a and b) ≡ true) ↔ ((a ≡ true) × (b ≡ true))

@@ -1,12 +1,12 @@
 -- What lists of numbers come to (`list`, `gather`, `holds`, `all` of specs/Counted.antt): their lengths and elements, a list that is filled in
 -- place, what all of a list passes and what it holds. Assumes nothing.
-use Rattle.std.specs.Prelude.{◌≡◌, refl, Bool, true, false, List, [], ◌∷◌, ◌++◌, ◌↔◌, ◌⊎◌, ℕ, zero, suc, ◌+◌, ◌<◌, ◌≤◌, eqb, length, get_or, set}
+use Rattle.std.specs.Prelude.{◌≡◌, refl, Bool, true, false, List, [], ◌∷◌, ◌++◌, ◌↔◌, ◌⊎◌, ℕ, zero, suc, ◌+◌, ◌<◌, ◌≤◌, eqb, length, get_or, set, if◌then◌else◌}
 use Rattle.std.proofs.Common.{sym, ap, ◌∙◌, inl, inr, ⊎_elim, arith, eqb-true, length-set, ext_get_or, get_or-set_same, get_or-set_other}
 use Rattle.std.proofs.lemmas.Bool.{false≢true, eqb-false}
 use Rattle.std.proofs.Math.Decide.{ℕ_discrete}
 use Rattle.std.proofs.Math.ListN.{get_or-append}
 use Rattle.std.proofs.lemmas.List.{get_or_at}
-use Rattle.terms.specs.Choose.{if◌then◌else◌, ◌and◌, ◌or◌}
+use Rattle.terms.specs.Choose.{◌and◌, ◌or◌}
 use Rattle.terms.specs.Counted.{every_from, list_from, list, gather_from, gather, holds, all}
 use Rattle.terms.proofs.ChooseLaws.{and-if, or_passes}
 use Rattle.terms.specs.CountedLaws.{Some}

@@ -1,6 +1,5 @@
 -- Numbers as bytes, little-endian, and return counts in two's complement (document 01, "Saved image"). Definitions only; assumes nothing.
-use Rattle.std.specs.Prelude.{List, [], ◌∷◌, ◌++◌, ℕ, zero, suc, ◌+◌, ◌-◌, ◌*◌, ◌/◌, ◌%◌, ltb, ℤ, pos, negsuc, length, take, drop}
-use Rattle.terms.specs.Choose.{if◌then◌else◌}
+use Rattle.std.specs.Prelude.{List, [], ◌∷◌, ◌++◌, ℕ, zero, suc, ◌+◌, ◌-◌, ◌*◌, ◌/◌, ◌%◌, ltb, ℤ, pos, negsuc, length, take, drop, if◌then◌else◌}
 
 -- a number in so many bytes
 abbrev pub bytes_of : ℕ → ℕ → List ℕ

@@ -1,15 +1,9 @@
 -- How a definition chooses: by a test, and by a list of refusals that are tried in order. Definitions only; assumes nothing.
-use Rattle.std.specs.Prelude.{Bool, true, false, List, [], ◌∷◌, ℕ}
+use Rattle.std.specs.Prelude.{Bool, true, false, List, [], ◌∷◌, ℕ, if◌then◌else◌}
 
-infix 1 if◌then◌else◌
 infix 2 ◌when◌
 infixr 3 ◌or◌
 infixr 4 ◌and◌
--- the first branch if the test passes, else the second
-abbrev pub if◌then◌else◌ {ℓ} : {A : Type ℓ} → Bool → A → A → A
-if◌then◌else◌ true a b = a
-if◌then◌else◌ false a b = b
-
 -- both tests pass; the second is asked only after the first
 abbrev pub ◌and◌ : Bool → Bool → Bool
 true and b = b

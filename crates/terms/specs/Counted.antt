@@ -1,6 +1,5 @@
 -- What is said of the numbers below a bound: all, how many, the lowest, a sum, a list. Definitions only; assumes nothing.
-use Rattle.std.specs.Prelude.{Bool, true, false, List, [], ◌∷◌, ◌++◌, ℕ, zero, suc, ◌+◌, eqb}
-use Rattle.terms.specs.Choose.{if◌then◌else◌}
+use Rattle.std.specs.Prelude.{Bool, true, false, List, [], ◌∷◌, ◌++◌, ℕ, zero, suc, ◌+◌, eqb, if◌then◌else◌}
 
 -- each of the n numbers from k on passes the test
 unfoldable pub every_from : ℕ → ℕ → (ℕ → Bool) → Bool

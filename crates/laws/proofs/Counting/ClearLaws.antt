@@ -1,9 +1,9 @@
 -- The bridge from the counts to the heap, for tables: the directory of an object is clear exactly where nobody else has the object and nothing
 -- of it is in the air (document 000, theorem 4.1; PROOF-PLAN, "The theorem that answers the insurer"). Assumes nothing.
-use Rattle.std.specs.Prelude.{◌≡◌, refl, ◌≢◌, ◌⊎◌, Bool, true, false, not, ℕ, ◌<◌, eqb, pos}
+use Rattle.std.specs.Prelude.{◌≡◌, refl, ◌≢◌, ◌⊎◌, Bool, true, false, not, ℕ, ◌<◌, eqb, pos, if◌then◌else◌}
 use Rattle.std.proofs.Common.{ap, inl, inr, ⊎_elim, true≢false, arith, eqb-true, eq-eqb}
 use Rattle.std.proofs.lemmas.Bool.{false≢true}
-use Rattle.terms.specs.Choose.{if◌then◌else◌, ◌and◌}
+use Rattle.terms.specs.Choose.{◌and◌}
 use Rattle.terms.proofs.ChooseLaws.{and_passes}
 use Rattle.terms.specs.Counted.{one}
 use Rattle.terms.specs.CountedLaws.{Some}

@@ -1,7 +1,7 @@
 -- What single entries and messages add to the laws of an object (document 01, laws A and B). Assumes nothing.
-use Rattle.std.specs.Prelude.{◌≡◌, refl, ◌≢◌, Bool, true, false, ℕ, ◌<◌, eqb, ℤ, pos, negsuc}
+use Rattle.std.specs.Prelude.{◌≡◌, refl, ◌≢◌, Bool, true, false, ℕ, ◌<◌, eqb, ℤ, pos, negsuc, if◌then◌else◌}
 use Rattle.std.proofs.Common.{sym, ap, ◌∙◌, true≢false, arith, eq-eqb, ne_eqb, eqb-true}
-use Rattle.terms.specs.Choose.{if◌then◌else◌, ◌and◌}
+use Rattle.terms.specs.Choose.{◌and◌}
 use Rattle.terms.specs.Counted.{one}
 use Rattle.terms.specs.Limits.{owner}
 use Rattle.entry.specs.declared.ReturnCount.{ReturnCount}

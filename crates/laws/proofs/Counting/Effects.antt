@@ -1,6 +1,6 @@
 -- The effect of each act of specs/Counting/Change.antt on the counts of its object, for an entry and a message in shape (PROOF-PLAN, the table
 -- "Laws A and B, act by act"). Assumes nothing.
-use Rattle.std.specs.Prelude.{◌≡◌, ◌≢◌, Bool, not, ℕ, ◌+◌, leb, ltb, ℤ, negsuc, ◌+ℤ◌}
+use Rattle.std.specs.Prelude.{◌≡◌, ◌≢◌, Bool, not, ℕ, ◌+◌, leb, ltb, ℤ, negsuc, ◌+ℤ◌, if◌then◌else◌}
 use Rattle.std.proofs.Math.Path.{refl, sym}
 use Rattle.std.proofs.Common.{ap, ◌∙◌, inr, true≢false, arith}
 use Rattle.std.proofs.Math.Logic.{inl}
@@ -8,7 +8,7 @@ use Rattle.std.proofs.Math.Bool.{true, false}
 use Rattle.std.proofs.Math.Dec.{eqb}
 use Rattle.std.proofs.Math.IntN.{pos, +ℤ_comm, +ℤ_idr}
 use borrow.Author.Tests.{eqb-true, eqb-false, leb-true, eq-eqb}
-use Rattle.terms.specs.Choose.{if◌then◌else◌, ◌and◌}
+use Rattle.terms.specs.Choose.{◌and◌}
 use Rattle.terms.proofs.ChooseLaws.{and_passes}
 use Rattle.terms.specs.Counted.{one}
 use Rattle.terms.specs.Limits.{MOST, owner}

@@ -1,12 +1,12 @@
 -- One more is always possible: while something is due of an object that nobody uses, a decrement of it is in the air or a remote entry of it can be
 -- dropped, refused only by FULL or ENDED; and a SETTLE of it is refused only by ENDED (document 01, law E). Assumes nothing.
-use Rattle.std.specs.Prelude.{◌≡◌, Bool, List, [], ◌∷◌, ℕ, ◌<◌, ltb}
+use Rattle.std.specs.Prelude.{◌≡◌, Bool, List, [], ◌∷◌, ℕ, ◌<◌, ltb, if◌then◌else◌}
 use Rattle.std.proofs.Math.Path.{refl}
 use Rattle.std.proofs.Common.{ap, ◌∙◌, inl, inr, ⊎_elim}
 use Rattle.std.proofs.Math.Bool.{true, false, not}
 use Rattle.std.proofs.lemmas.Bool.{false≢true}
 use borrow.Author.Tests.{eqb-true, leb-true, lt-ltb}
-use Rattle.terms.specs.Choose.{Refusal, ◌when◌, if◌then◌else◌, ◌or◌}
+use Rattle.terms.specs.Choose.{Refusal, ◌when◌, ◌or◌}
 use Rattle.terms.specs.Counted.{holds}
 use Rattle.terms.specs.Limits.{NODES, OBJECTS, PLACES, EVENTS}
 use Rattle.terms.specs.Numbers.{SHAPE, EVENT, ENDED, BUSY, TORN, FULL}

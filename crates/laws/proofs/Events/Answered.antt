@@ -1,10 +1,10 @@
 -- What an accepted event tells of its refusals: none of them applies, for each has a number and "accepted" is none. And what a refused
 -- event leaves: the table as it was. Assumes nothing.
-use Rattle.std.specs.Prelude.{◌≡◌, ◌≢◌, Bool, true, false, not, List, [], ◌∷◌, ℕ, ◌+◌, ◌<◌, ltb, eqb}
+use Rattle.std.specs.Prelude.{◌≡◌, ◌≢◌, Bool, true, false, not, List, [], ◌∷◌, ℕ, ◌+◌, ◌<◌, ltb, eqb, if◌then◌else◌}
 use Rattle.std.proofs.Math.Path.{refl}
 use Rattle.std.proofs.Common.{sym, ap, ◌∙◌, true≢false, ltb-true, eq-eqb, eqb-true}
 use Rattle.std.proofs.lemmas.Bool.{not-true, not-false}
-use Rattle.terms.specs.Choose.{Refusal, if◌then◌else◌, ◌and◌, answered}
+use Rattle.terms.specs.Choose.{Refusal, ◌and◌, answered}
 use Rattle.terms.proofs.ChooseLaws.{and_passes}
 use Rattle.terms.specs.Limits.{EVENTS}
 use Rattle.terms.specs.Numbers.{ACCEPTED}

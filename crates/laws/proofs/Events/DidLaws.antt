@@ -1,11 +1,11 @@
 -- Every accepted event did what Did.antt says of its kind: `did`. Assumes nothing.
-use Rattle.std.specs.Prelude.{◌≡◌, Bool, ℕ, ◌+◌, ◌<◌, ltb, eqb}
+use Rattle.std.specs.Prelude.{◌≡◌, Bool, ℕ, ◌+◌, ◌<◌, ltb, eqb, if◌then◌else◌}
 use Rattle.std.proofs.Math.Path.{refl}
 use Rattle.std.proofs.Common.{sym, ap, subst, true≢false, arith}
 use Rattle.std.proofs.Math.Bool.{true, false, not}
 use Rattle.std.proofs.lemmas.Bool.{false≢true}
 use borrow.Author.Tests.{ltb-true, eqb-true, eqb-false, not-false}
-use Rattle.terms.specs.Choose.{if◌then◌else◌, ◌or◌}
+use Rattle.terms.specs.Choose.{◌or◌}
 use Rattle.terms.proofs.ChooseLaws.{and_passes}
 use Rattle.terms.specs.Limits.{OWNED, PLACES}
 use Rattle.terms.specs.Numbers.{ACCEPTED}

@@ -1,13 +1,13 @@
 -- The acts on an entry keep its shape: each tests the ranges before it changes a count, and hands back the entry as it was where one would
 -- be left (document 01, "Any event: a count would leave its shape range"). Assumes nothing.
-use Rattle.std.specs.Prelude.{◌≡◌, Bool, not, ◌≢◌, ℕ, ◌+◌, ◌-◌, ◌<◌, ◌≤◌, leb, ltb}
+use Rattle.std.specs.Prelude.{◌≡◌, Bool, not, ◌≢◌, ℕ, ◌+◌, ◌-◌, ◌<◌, ◌≤◌, leb, ltb, if◌then◌else◌}
 use Rattle.std.proofs.Math.Path.{refl}
 use Rattle.std.proofs.Common.{sym, ◌∙◌}
 use Rattle.std.proofs.Math.Bool.{true, false}
 use native.Mathlib.Omega.{arith}
 use Rattle.std.proofs.Math.Dec.{eqb}
 use borrow.Author.Tests.{eqb-false, ltb-true}
-use Rattle.terms.specs.Choose.{if◌then◌else◌, ◌and◌}
+use Rattle.terms.specs.Choose.{◌and◌}
 use Rattle.terms.proofs.ChooseLaws.{and_passes, either_way}
 use Rattle.terms.specs.Limits.{MOST, NODES, owner}
 use Rattle.entry.specs.declared.ReturnCount.{ReturnCount}

@@ -1,10 +1,9 @@
 -- Every accepted event leaves a formed table formed and in shape (document 01, "Shape"): `keeps_form`, `keeps_shape`. The refusals are what
 -- makes it true: EVENT for operands, TORN for a count that would leave its range. Assumes nothing.
-use Rattle.std.specs.Prelude.{◌≡◌, Bool, ℕ, ◌+◌, ◌<◌}
+use Rattle.std.specs.Prelude.{◌≡◌, Bool, ℕ, ◌+◌, ◌<◌, if◌then◌else◌}
 use Rattle.std.proofs.Math.Path.{refl, sym}
 use Rattle.std.proofs.Common.{ap, ◌∙◌, arith, le-leb, lt-ltb}
 use Rattle.std.proofs.Math.Bool.{true, false}
-use Rattle.terms.specs.Choose.{if◌then◌else◌}
 use Rattle.terms.specs.Limits.{EVENTS, MOST, NODES, OBJECTS, NONE}
 use Rattle.terms.proofs.ListLaws.{length_list}
 use Rattle.terms.specs.Numbers.{ACCEPTED}

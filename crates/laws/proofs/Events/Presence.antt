@@ -1,9 +1,9 @@
 -- What the acts on an entry do to its Presence (document 01, SEND, RECEIVE, SETTLE): none of them takes it away, a receipt elsewhere than at the
 -- owner gives it, and no act but the owner's first SEND makes a directory. Assumes nothing.
-use Rattle.std.specs.Prelude.{◌≡◌, refl, ◌≢◌, Bool, true, false, not, ℕ, leb, ltb, eqb}
+use Rattle.std.specs.Prelude.{◌≡◌, refl, ◌≢◌, Bool, true, false, not, ℕ, leb, ltb, eqb, if◌then◌else◌}
 use Rattle.std.proofs.Common.{◌∙◌, true≢false, ne_eqb}
 use Rattle.std.proofs.lemmas.Bool.{false≢true}
-use Rattle.terms.specs.Choose.{if◌then◌else◌, ◌and◌}
+use Rattle.terms.specs.Choose.{◌and◌}
 use Rattle.terms.proofs.ChooseLaws.{either_way}
 use Rattle.terms.specs.Limits.{MOST, owner}
 use Rattle.terms.specs.Numbers.{ACCEPTED}

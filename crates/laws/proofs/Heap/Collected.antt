@@ -1,11 +1,10 @@
 -- What stands where after COLLECT at p (document 01, COLLECT): each object, and each entry, by whether the object is reclaimed, p's own, or held
 -- at p. For tables as their type makes them. Assumes nothing.
-use Rattle.std.specs.Prelude.{◌≡◌, ◌≢◌, ◌⊎◌, Bool, true, ℕ, ◌<◌, length}
+use Rattle.std.specs.Prelude.{◌≡◌, ◌≢◌, ◌⊎◌, Bool, true, ℕ, ◌<◌, length, if◌then◌else◌}
 use Rattle.std.proofs.Math.Path.{refl}
 use Rattle.std.proofs.Common.{sym, ap, ◌∙◌, ⊎_elim, arith}
 use Rattle.std.proofs.Math.Bool.{false}
 use Rattle.std.proofs.lemmas.Bool.{false≢true, eqb-false}
-use Rattle.terms.specs.Choose.{if◌then◌else◌}
 use Rattle.terms.specs.Counted.{holds}
 use Rattle.terms.specs.Limits.{NODES, OBJECTS, owner}
 use Rattle.terms.proofs.ListLaws.{get_d_list, length_list}

@@ -1,6 +1,6 @@
 -- The invariant: what is left is to mark the fields of marked objects from `o` on.
+use Rattle.std.specs.Prelude.{if◌then◌else◌}
 use Rattle.std.proofs.Common.{ℕ, List, [], Bool, ◌≡◌, ◌-◌, ◌≤◌}
-use Rattle.terms.specs.Choose.{if◌then◌else◌}
 use Rattle.terms.specs.Counted.{gather_from}
 use Rattle.terms.specs.Limits.{OBJECTS}
 use Rattle.heap.specs.declared.Heap.{Heap}

@@ -1,6 +1,6 @@
 -- The invariant: the objects before `k` that are pointed at are visited.
+use Rattle.std.specs.Prelude.{if◌then◌else◌}
 use Rattle.std.proofs.Common.{ℕ, List, [], ◌∷◌, Bool, false, ◌+◌, ◌*◌, ◌-◌, ◌≤◌, get_or}
-use Rattle.terms.specs.Choose.{if◌then◌else◌}
 use Rattle.terms.specs.Counted.{gather}
 use Rattle.terms.specs.Limits.{OWNED}
 use Rattle.heap.specs.Visit.{Visited}
