@@ -1,13 +1,8 @@
 -- The three layers together are the reader's definition: what is refused is refused by it with the same number, and what is taken is taken
 -- by it. Assumes nothing.
 use Rattle.std.specs.Prelude.{if◌then◌else◌}
-use mathlib.Core.Path.{◌≡◌, refl, sym, ap, subst, ◌∙◌}
-use mathlib.Core.Bool.{Bool, true, false, true≢false}
-use mathlib.Core.List.{List, [], ◌∷◌, ◌++◌}
-use Prim.Native.Nat.{ℕ, ◌+◌, ◌≤◌, ◌<◌}
-use native.Mathlib.Omega.{arith}
+use Rattle.std.proofs.Common.{◌≡◌, refl, sym, ap, subst, ◌∙◌, Bool, true, false, true≢false, List, [], ◌∷◌, ◌++◌, ℕ, ◌+◌, ◌≤◌, ◌<◌, arith, length}
 use borrow.Author.Tests.{ltb-false, not-false}
-use lib.ListN.{length}
 use Rattle.terms.specs.Choose.{Refusal, answered}
 use Rattle.table.specs.declared.Table.{Table}
 use Rattle.image.specs.declared.Frame.{Frame}

@@ -1,15 +1,7 @@
 -- The reader's loop: what is read so far and the bytes that are left still give the whole answer. The heap is kept beside the table.
 -- Assumes nothing.
-use mathlib.Core.Path.{◌≡◌, refl, ap, ◌∙◌}
-use mathlib.Core.Bool.{Bool, true, false}
-use mathlib.Core.List.{List, [], ◌∷◌}
-use Prim.Native.Nat.{ℕ, zero, suc, ◌+◌, ◌-◌, ◌≤◌, ◌<◌}
-use native.Mathlib.Numerals.{sub-one}
-use native.Mathlib.Omega.{arith}
+use Rattle.std.proofs.Common.{◌≡◌, refl, ap, ◌∙◌, Bool, true, false, List, [], ◌∷◌, ℕ, zero, suc, ◌+◌, ◌-◌, ◌≤◌, ◌<◌, sub-one, arith, ltb, length, take, drop, set, length-drop, drop-drop, take_all}
 use borrow.Author.Tests.{ltb-true}
-use lib.Dec.{ltb}
-use lib.ListN.{length, take, drop, set, length-drop}
-use lib.Seq.{drop-drop, take_all}
 use Rattle.terms.specs.Choose.{◌and◌}
 use Rattle.terms.proofs.ChooseLaws.{and_passes}
 use Rattle.terms.specs.Limits.{NODES, OBJECTS, PLACES}
@@ -30,8 +22,8 @@ use Rattle.image.specs.Content.{number, live_object, roots_of_node, reference_me
 use Rattle.image.specs.Front.{key_of, front_of, cell_with_directory, cell_with_remote}
 use Rattle.image.specs.Order.{first_turn, turn_after}
 use Rattle.image.specs.Reader.{Taken, payload, record_of, take_record, refused_read, then_read, read_from, read}
-use Rattle.image.specs.Records.{HEAD, is_end, length_of}
-use Rattle.reader.proofs.Fronting.{Good, Bad, front_within}
+use Rattle.image.specs.Records.{HEAD, is_unknown, is_end, length_of}
+use Rattle.reader.proofs.Fronting.{Good, Bad, good_front_lem, bad_front, front_within}
 
 -- the table with this in a place
 abbrev pub with_place : Table → ℕ → Place → Table
@@ -49,16 +41,8 @@ unroll (suc n) now t l le = rw sub-one
 abbrev pub lent : List ℕ → ℕ → List ℕ
 lent s at = take (length s - at) (drop at s)
 
-pub rest_is : (s : List ℕ) (at : ℕ) → lent s at ≡ drop at s
+rest_is : (s : List ℕ) (at : ℕ) → lent s at ≡ drop at s
 rest_is s at = take_all (length s - at) (drop at s) (omega (arith, length-drop at s))
-
--- what the code finds there is the record at the front of what is left
-pub found : (s : List ℕ) (at : ℕ) (turn : Turn) (f : Front) → f ≡ front_of turn (lent s at) → f ≡ front_of turn (drop at s)
-found s at turn f e = e ∙ ap (front_of turn) (rest_is s at)
-
--- and does not pass the end of the bytes
-pub inside : (s : List ℕ) (at : ℕ) (turn : Turn) (f : Front) → at ≤ length s → f ≡ front_of turn (drop at s) → at + f.length ≤ length s
-inside s at turn f le is = omega (arith, front_within turn (drop at s) f is, length-drop at s)
 
 -- the table with this heap is what is read before `at`
 pub record Reading (s : List ℕ) (table : Table) (heap : Heap) (turn : Turn) (at : ℕ) : Type 0 where
@@ -91,7 +75,7 @@ module _ {now : Turn} {l : List ℕ} {f : Front} where
   tested g most rest e = rw g.key (ltb-true _ most ((and_passes _ rest).0 e).0)
 
   -- it is one of them
-  pub key_below : (k : RecordKind) → Good now l k f → f.key < limit k
+  key_below : (k : RecordKind) → Good now l k f → f.key < limit k
   unfolding fits_record
   key_below Count g = omega (arith, g.key)
   key_below Live g = tested g OBJECTS _ g.fits
@@ -102,6 +86,34 @@ module _ {now : Turn} {l : List ℕ} {f : Front} where
   key_below Decrement g = tested g PLACES _ g.fits
   key_below End g = omega (arith, g.key)
   key_below Unknown g = omega (arith, g.key)
+
+-- ---- at a record that is found in the rest as the code lends it
+
+module _ {s : List ℕ} {table : Table} {heap : Heap} {turn : Turn} {at : ℕ} (r : Reading s table heap turn at) (f : Front)
+    (is : f ≡ front_of turn (lent s at)) where
+  -- it is the one at the front of what is left
+  here : f ≡ front_of turn (drop at s)
+  here = is ∙ ap (front_of turn) (rest_is s at)
+
+  -- it does not pass the end of the bytes
+  pub inside : at + f.length ≤ length s
+  inside = omega (arith, front_within turn (drop at s) f here, length-drop at s, r.within)
+
+  pub bad : f.kind ≡ Unknown → Bad turn (drop at s) f
+  bad e = bad_front turn (drop at s) f here e
+
+  -- one that is of a known kind
+  module _ (k : RecordKind) (known : is_unknown k ≡ false) (e : f.kind ≡ k) where
+    pub good : Good turn (drop at s) k f
+    good = good_front_lem turn (drop at s) f here k known e
+
+    -- is all there,
+    pub long : HEAD + length_of k ≤ length (lent s at)
+    long = rw (rest_is s at) good.long
+
+    -- and is about a thing that there is
+    pub below : f.key < limit k
+    below = key_below k good
 
 -- ---- one record more
 

@@ -177,6 +177,7 @@ fn fits_count(l: &[u8]) -> bool
     number_at(l, 4) <= Table::EVENTS
 }
 
+#[tactic(auto, unfolding(image::specs::Content::fits_record))]
 pub(crate) fn fits_record(kind: RecordKind, l: &[u8]) -> bool
     requires { HEAD-BYTES + length_of kind ≤ length l.now }
     ensures { result ≡ fits_record kind (payload kind l.now) }
