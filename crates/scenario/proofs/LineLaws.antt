@@ -1,14 +1,6 @@
 -- The lines of a text: the first line feed parts the first line from the rest, and what the first line adds to the number of the first bad
 -- line and to the events. Assumes nothing.
-use mathlib.Core.Path.{◌≡◌, sym, ap, ◌∙◌}
-use mathlib.Core.Bool.{true, false}
-use mathlib.Core.List.{List, [], ◌∷◌, ◌++◌}
-use Prim.Native.Nat.{ℕ, zero, suc, ◌+◌, ◌-◌, ◌<◌, ◌≤◌}
-use native.Mathlib.Numerals.{add-one}
-use native.Mathlib.Omega.{arith}
-use borrow.Author.Tests.{eq-eqb, ne_eqb}
-use lib.ListN.{length, get_or, take, drop, length-drop, length-append}
-use lib.Seq.{get_or-drop, drop-drop}
+use Rattle.std.proofs.Common.{◌≡◌, ℕ, zero, suc, ◌+◌, ◌-◌, ◌<◌, ◌≤◌, true, false, List, [], ◌∷◌, ◌++◌, length, get_or, take, drop, sym, ap, ◌∙◌, add-one, arith, eq-eqb, ne_eqb, length-drop, length-append, get_or-drop, drop-drop}
 use Rattle.scenario.specs.Line.{line_feed, line_of}
 use Rattle.scenario.specs.declared.Line.{Line}
 use Rattle.scenario.specs.declared.Line.TheVariants.{Nothing, One, Bad}
