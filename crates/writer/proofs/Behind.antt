@@ -1,12 +1,10 @@
 -- A record stored part by part: bytes behind bytes, until they are all that the record has. Assumes nothing.
-use mathlib.Core.List.{List, ◌++◌}
-use Prim.Native.Nat.{ℕ, ◌≤◌}
-use native.Mathlib.Omega.{arith}
-use lib.ListN.{length}
+use Rattle.std.specs.Prelude.{List, ◌++◌, ℕ, ◌≤◌, length}
+use Rattle.std.proofs.Common.{arith}
 use Rattle.image.specs.Records.{Record}
 use Rattle.image.specs.Stored.{Stored, Put}
-use Rattle.image.proofs.StoredLaws.{stored_both}
 use Rattle.image.specs.Writer.{bytes_of_all}
+use Rattle.image.proofs.StoredLaws.{stored_both}
 
 infixl 4 ◌then◌
 pub ◌then◌ : {out : List ℕ} {at : ℕ} {v : List ℕ} {out' : List ℕ} {n : ℕ} {w : List ℕ} {out'' : List ℕ} {m : ℕ}

@@ -1,11 +1,7 @@
 -- The whole image in the buffer where it is made: the count, the sections one behind the other and the end are the records of the table, and the
 -- front of the buffer is the image. Assumes nothing.
-use mathlib.Core.Path.{◌≡◌, sym, ◌∙◌}
-use mathlib.Core.List.{List, [], ◌∷◌, ◌++◌, append_assoc}
-use Prim.Native.Nat.{ℕ}
-use native.Mathlib.Omega.{arith}
-use lib.ListN.{length}
-use lib.Seq.{take_at}
+use Rattle.std.specs.Prelude.{◌≡◌, List, [], ◌∷◌, ◌++◌, ℕ, length}
+use Rattle.std.proofs.Common.{sym, ◌∙◌, append_assoc, arith, take_at}
 use Rattle.terms.proofs.BufferLaws.{sets_front}
 use Rattle.table.specs.declared.Table.{Table}
 use Rattle.image.specs.declared.RecordKind.TheVariants.{Count, End}

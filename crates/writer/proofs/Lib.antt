@@ -1,5 +1,4 @@
 pub mod Behind
-pub mod Bits
 pub mod InOrder
 pub mod OneByte
 pub mod Turns

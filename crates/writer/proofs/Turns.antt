@@ -1,8 +1,6 @@
 -- A loop that puts the records of the numbers below a limit, one number after the other. Assumes nothing.
-use mathlib.Core.Path.{◌≡◌}
-use mathlib.Core.List.{List}
-use Prim.Native.Nat.{ℕ, ◌+◌, ◌*◌, ◌≤◌, ◌<◌}
-use native.Mathlib.Omega.{arith}
+use Rattle.std.specs.Prelude.{◌≡◌, List, ℕ, ◌+◌, ◌*◌, ◌≤◌, ◌<◌}
+use Rattle.std.proofs.Common.{arith}
 use Rattle.terms.specs.Counted.{gather}
 use Rattle.image.specs.Records.{Record}
 use Rattle.image.specs.Stored.{Put}

@@ -19,6 +19,7 @@ use image::{Held, ObjectParts, RecordBytes, RootParts};
 use table::Message;
 
 // No record.
+#[tactic(auto, unfolding(image::specs::Writer::bytes_of_all))]
 fn none() -> RecordBytes
     ensures { Tells [] result }
 {
@@ -29,6 +30,7 @@ fn none() -> RecordBytes
 }
 
 // The event count.
+#[tactic(auto, unfolding(image::specs::Writer::bytes_of_all))]
 fn count_record(n: u32) -> RecordBytes
     ensures { Tells (row Count (n ∷ []) ∷ []) result }
 {
@@ -64,6 +66,7 @@ fn count_record(n: u32) -> RecordBytes
 }
 
 // An object, if it is live.
+#[tactic(auto, unfolding(image::specs::Writer::bytes_of_all))]
 fn object_record(o: u8, x: ObjectParts) -> RecordBytes
     ensures { Tells (live_record o (whole_object x)) result }
 {
@@ -98,6 +101,7 @@ fn object_record(o: u8, x: ObjectParts) -> RecordBytes
 }
 
 // The eight roots of a node.
+#[tactic(auto, using(crate::proofs::OneByte::byte), unfolding(image::specs::Writer::bytes_of_all))]
 fn roots_record(p: u8, x: RootParts) -> RecordBytes
     ensures { Tells (node_record p (whole_roots x)) result }
 {
@@ -129,6 +133,7 @@ fn roots_record(p: u8, x: RootParts) -> RecordBytes
 }
 
 // The owner's entry.
+#[tactic(auto, unfolding(image::specs::Writer::bytes_of_all))]
 fn directory_record(o: u8, d: Directory) -> RecordBytes
     ensures { Tells (directory_record o (AtOwner d)) result }
 {
@@ -171,6 +176,7 @@ fn directory_record(o: u8, d: Directory) -> RecordBytes
 }
 
 // Any other node's entry.
+#[tactic(auto, using(crate::proofs::OneByte::byte), unfolding(image::specs::Writer::bytes_of_all))]
 fn remote_record(p: u8, o: u8, e: Remote) -> RecordBytes
     ensures { Tells (remote_record p o (Elsewhere e)) result }
 {
@@ -231,6 +237,7 @@ fn entry_record(p: u8, o: u8, entry: Entry) -> RecordBytes
 }
 
 // A reference in the air.
+#[tactic(auto, unfolding(image::specs::Writer::bytes_of_all))]
 fn reference_record(s: u8, from: u8, to: u8, o: u8) -> RecordBytes
     ensures { Tells (message_record s (Reference from to o)) result }
 {
@@ -262,6 +269,7 @@ fn reference_record(s: u8, from: u8, to: u8, o: u8) -> RecordBytes
 }
 
 // A decrement in the air, with its return count and weight.
+#[tactic(auto, unfolding(image::specs::Writer::bytes_of_all))]
 fn decrement_record(
     s: u8,
     from: u8,

@@ -33,7 +33,7 @@ pub fn put_image(t: Table, out: &mut [u8]) -> Written
 }
 
 // The image of the table at the front of out. For a table that breaks the shape, or with too little room, out is as it was.
-#[tactic(auto, unfolding(image::specs::Writer::write_answer, image::specs::Writer::write_length, image::specs::Writer::write_bytes))]
+#[tactic(auto, unfolding(image::specs::Writer::put_answer, image::specs::Writer::put_length, image::specs::Writer::put_bytes, image::specs::Writer::write_answer, image::specs::Writer::write_length, image::specs::Writer::write_bytes))]
 pub fn write(t: Table, out: &mut [u8]) -> Written
     ensures answer { result.answer ≡ write_answer t out.old }
     ensures length { result.length ≡ write_length t out.old }
