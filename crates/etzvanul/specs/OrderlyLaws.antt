@@ -15,7 +15,7 @@ use Rattle.splice.proofs.Bytes.{offset_within, spot_small}
 use Rattle.splice.proofs.Image.{records_fit}
 use Rattle.splice.specs.Patched.{Ascends}
 use Rattle.splice.specs.Patched as patched
-use Rattle.splice.proofs.Scan.{offset_further}
+use Rattle.splice.proofs.Resumed.{offset_further}
 use Rattle.step.specs.declared.Outcome.{Outcome}
 use Rattle.plan.specs.declared.Change.{Change}
 use Rattle.plan.specs.declared.Plan.{Plan}

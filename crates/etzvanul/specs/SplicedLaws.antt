@@ -12,7 +12,7 @@ use Rattle.splice.specs.Bytes.{patched_bytes}
 use Rattle.splice.proofs.Image.{image_patched}
 use Rattle.splice.specs.Patched.{Ascends, Differs}
 use Rattle.splice.specs.Patched as patched
-use Rattle.splice.proofs.Scan.{offset_further}
+use Rattle.splice.proofs.Resumed.{offset_further}
 use Rattle.step.specs.declared.Outcome.{Outcome}
 use Rattle.step.specs.Collect.{collect}
 use Rattle.step.specs.Outcome.{by}

@@ -22,7 +22,7 @@ use Rattle.image.specs.Spots.{Spot, count, object, directory, remote, spot_posit
 use Rattle.splice.specs.Changed.{entry_spot}
 use Rattle.splice.proofs.Changed.{own_position}
 use Rattle.splice.specs.Onward.{From}
-use Rattle.splice.proofs.Onward.{from_later, from_found}
+use Rattle.splice.proofs.Resumed.{from_later, from_found}
 use Rattle.step.specs.CollectParts.{is_whole}
 use Rattle.plan.specs.declared.Change.{Change}
 use Rattle.plan.specs.declared.Change.TheVariants.{Same}

@@ -6,7 +6,7 @@ use lib.ListN.{get_or}
 use mir.Syntax.{w8}
 use mir.Val.{Fits}
 use Rattle.image.specs.BytesLaws.{AreBytes}
-use Rattle.splice.proofs.Onward.{are_bytes}
+use Rattle.splice.proofs.Resumed.{are_bytes}
 
 pub slice_bytes : (l : List ℕ) → ((i : ℕ) → Fits w8 (get_or l i 0)) → AreBytes l
 slice_bytes l each = are_bytes l (λ i. omega (arith, each i))

@@ -9,6 +9,7 @@ pub mod Lookup
 pub mod Onward
 pub mod Parts
 pub mod Patched
+pub mod Resumed
 pub mod Scan
 pub mod Seen
 pub mod Spread

@@ -56,7 +56,7 @@ module _ (n : ℕ) where
 
 -- a scan to a later position goes on where one to an earlier position stopped
 module _ (n m : ℕ) (le : n ≤ m) where
-  further : (i : ℕ) (l : List ℕ) → length l ≤ i → offset m l ≡ offset n l + offset m (drop (offset n l) l)
+  pub further : (i : ℕ) (l : List ℕ) → length l ≤ i → offset m l ≡ offset n l + offset m (drop (offset n l) l)
   further zero l few = rw (no_bytes l few, passed_none n 0) (omega arith)
   further (suc i) l few =
       go (ltb (length l) KEYED) (ltb (front_place l) n) refl refl (further i (drop (front_size l) l) (omega (arith, length-drop (front_size l) l)))
@@ -73,6 +73,3 @@ module _ (n m : ℕ) (le : n ≤ m) where
           second ∙ rw first (ap (λ (k : ℕ). front_size l + k) more
           ∙ rw (drop-drop (offset n rest) (front_size l) l) (omega arith))
       go false false s e more = rw (offset_stops n l s e) (omega arith)
-
-  pub offset_further : (l : List ℕ) → offset m l ≡ offset n l + offset m (drop (offset n l) l)
-  offset_further l = further (length l) l (omega arith)
