@@ -2,68 +2,58 @@
 // standard error, and nothing is written to standard output.
 #![tactic(auto)]
 
-use libc::{STDERR_FILENO, STDIN_FILENO, STDOUT_FILENO};
 use scenario::Written;
+use std::io::{self, Read};
 
-fn say_bad_line(line: usize) {
-    io::write_all(STDERR_FILENO, b"line ");
-    io::print_decimal(STDERR_FILENO, line as u64);
-    io::write_all(
-        STDERR_FILENO,
-        b": expected five numbers, kind 0..65535 and operands 0..255\n",
-    );
+fn say_bad_line(rt: &impl Eprint, line: usize) -> io::Result<()> {
+    eprintln!(rt; "line {line}: expected five numbers, kind 0..65535 and operands 0..255")
 }
 
-fn say_too_many() {
-    io::write_all(STDERR_FILENO, b"too many events\n");
+fn say_too_many(rt: &impl Eprint) -> io::Result<()> {
+    eprintln!(rt; "too many events")
 }
 
-fn say_not_written() {
-    io::write_all(STDERR_FILENO, b"standard output: not all was written\n");
+fn say_not_written(rt: &impl Eprint) -> io::Result<()> {
+    eprintln!(rt; "standard output: not all was written")
 }
 
-fn say_too_long() {
-    io::write_all(STDERR_FILENO, b"standard input: more than 65536 bytes\n");
+fn say_too_long(rt: &impl Eprint) -> io::Result<()> {
+    eprintln!(rt; "standard input: more than {TEXT} bytes")
 }
 
-fn say_not_read() {
-    io::write_all(STDERR_FILENO, b"standard input: not read to its end\n");
+fn say_not_read(rt: &impl Eprint) -> io::Result<()> {
+    eprintln!(rt; "standard input: not read to its end")
 }
 
 // Writes the records of text, by way of out, or says why there are none.
-fn answer(text: &[u8], out: &mut [u8]) {
+fn answer(rt: &(impl Print + Eprint), text: &[u8], out: &mut [u8]) -> io::Result<()> {
     let written = scenario::write_events(text, out);
     let length = written.length;
     let line = written.line;
     if line != 0 {
-        say_bad_line(line);
-        return;
+        return say_bad_line(rt, line);
     }
     if written.answer != Written::ACCEPTED {
-        say_too_many();
-        return;
+        return say_too_many(rt);
     }
-    if !io::write_all(STDOUT_FILENO, &out[..length]) {
-        say_not_written();
+    if rt.write_all(&out[..length]).is_err() {
+        return say_not_written(rt);
     }
+    Ok(())
 }
 
-// The most bytes of text that are read: those of a large buffer.
+// The most bytes of text that are taken; by one more it is seen that there are too many.
 const TEXT: usize = 65536;
 
-fn main() {
-    let mut text = io::large_buffer();
-    let n = io::read_full(STDIN_FILENO, &mut text);
-    let mut more = [0u8; 1];
-    // 0: the input has ended
-    if libc::read(STDIN_FILENO, &mut more) != 0 {
-        if n < TEXT {
-            say_not_read();
-        } else {
-            say_too_long();
-        }
-        return;
+fn main(rt: HostRuntime) -> io::Result<()> {
+    let mut text = Vec::new(rt.alloc());
+    let mut input = rt.reader().take(TEXT as u64 + 1);
+    if input.read_to_end(&mut text).is_err() {
+        return say_not_read(&rt);
     }
-    let mut out = io::large_buffer();
-    answer(&text[..n], &mut out);
+    if text.len() > TEXT {
+        return say_too_long(&rt);
+    }
+    let mut out = [0u8; TEXT];
+    answer(&rt, &text, &mut out)
 }

@@ -7,7 +7,7 @@ ghost use Rattle.std.specs.Prelude.{◌≡◌, ◌+◌, ◌≤◌};
 ghost use Rattle.lent.specs.Lent.{lent};
 
 use entry::{Directory, Entry, EntryAct, Remote, ReturnCount, Weight};
-use libc::{STDIN_FILENO, STDOUT_FILENO};
+use std::io::{self, ErrorKind, Read};
 
 // The bytes of a case.
 const CASE: usize = 41;
@@ -35,8 +35,8 @@ fn lent_out(mut e: Entry, m: ReturnCount, n: Weight) -> EntryAct
     }
 }
 
-fn say(text: &[u8]) {
-    io::write_all(STDOUT_FILENO, text);
+fn say(rt: &impl Print, text: &str) -> io::Result<()> {
+    rt.print(text)
 }
 
 fn wide(b: u8) -> u32 {
@@ -123,40 +123,43 @@ fn same(a: Entry, b: Entry) -> bool {
 }
 
 // Whether the number and the entry that come of a case are the right ones. The number is told.
-fn agrees(s: &[u8; CASE]) -> bool {
+fn agrees(rt: &impl Print, s: &[u8; CASE]) -> io::Result<bool> {
     let before = entry_at(s, 0);
     let after = entry_at(s, 16);
     let m = returns_of(word(s, 32));
     let n = Weight(word(s, 36));
     let number = s[40];
     let act = lent_out(before, m, n);
-    io::print_decimal(STDOUT_FILENO, act.refusal as u64);
+    print!(rt; "{}", act.refusal)?;
     let stands = act.entry;
-    act.refusal == number && same(stands, after)
+    Ok(act.refusal == number && same(stands, after))
 }
 
-// Reads a case and tells what came of it. False at the end of the input.
-fn one_more_lem() -> bool {
+// Reads a case and tells what came of it. False at the end of the input, which may cut a case short.
+fn one_more<I: Read>(rt: &impl Print, input: &mut I) -> io::Result<bool> {
     let mut s = [0u8; CASE];
-    if io::read_full(STDIN_FILENO, &mut s) < CASE {
-        return false;
+    if let Err(error) = input.read_exact(&mut s) {
+        if error.kind() == ErrorKind::UnexpectedEof {
+            return Ok(false);
+        }
+        return Err(error);
     }
-    if agrees(&s) {
-        say(b"\n");
+    if agrees(rt, &s)? {
+        say(rt, "\n")?;
     } else {
-        say(b" differs\n");
+        say(rt, " differs\n")?;
     }
-    true
+    Ok(true)
 }
 
-fn main() {
+fn main(rt: HostRuntime) -> io::Result<()> {
+    let mut input = rt.reader();
     let mut cases: u32 = 0;
     while cases < CASES {
-        if !one_more() {
+        if !one_more(&rt, &mut input)? {
             break;
         }
         cases += 1;
     }
-    io::print_decimal(STDOUT_FILENO, cases as u64);
-    say(b" cases\n");
+    println!(rt; "{cases} cases")
 }

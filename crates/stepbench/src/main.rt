@@ -4,7 +4,7 @@
 
 ghost use Rattle.std.specs.Prelude.{◌<◌};
 
-use libc::STDOUT_FILENO;
+use std::io;
 use step::Event;
 use table::Table;
 
@@ -33,7 +33,7 @@ fn event(k: usize) -> Event
     }
 }
 
-fn main() {
+fn main(rt: HostRuntime) -> io::Result<()> {
     let mut t = Table::fresh();
     let mut round: u32 = 0;
     while round < ROUNDS {
@@ -46,7 +46,5 @@ fn main() {
         }
         round += 1;
     }
-    io::write_all(STDOUT_FILENO, b"accepted ");
-    io::print_decimal(STDOUT_FILENO, t.count as u64);
-    io::write_all(STDOUT_FILENO, b"\n");
+    println!(rt; "accepted {}", t.count)
 }
