@@ -1,6 +1,5 @@
 -- The invariant: the objects below `o` are as they are to be, the others as they were.
-use Rattle.std.proofs.Common.{◌≡◌, ◌≤◌, ◌-◌, false, []}
-use Rattle.terms.specs.Choose.{if◌then◌else◌}
+use Rattle.std.proofs.Common.{◌≡◌, ◌≤◌, ◌-◌, false, [], if◌then◌else◌}
 use Rattle.terms.specs.Limits.{OBJECTS}
 use Rattle.terms.proofs.ListLaws.{Filled}
 use Rattle.heap.specs.Heap.{idle, object_at}

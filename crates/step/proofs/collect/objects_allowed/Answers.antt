@@ -1,7 +1,5 @@
-use Rattle.std.proofs.Common.{ap, not}
+use Rattle.std.proofs.Common.{[], ap, not, if◌then◌else◌}
 use Rattle.terms.proofs.CountedLaws.{tested_none, tested_fails, tested_more, tested_all}
-use Rattle.std.proofs.Common.{[]}
-use Rattle.terms.specs.Choose.{if◌then◌else◌}
 use Rattle.terms.specs.Limits.{OBJECTS}
 use Rattle.terms.proofs.ListLaws.{all_gather}
 use Rattle.heap.specs.Heap.{fields_of}

@@ -1,6 +1,5 @@
 -- The invariant: the whole test is that of the objects from `o` on.
-use Rattle.std.proofs.Common.{◌-◌, []}
-use Rattle.terms.specs.Choose.{if◌then◌else◌}
+use Rattle.std.proofs.Common.{◌-◌, [], if◌then◌else◌}
 use Rattle.terms.specs.Counted.{all}
 use Rattle.terms.specs.Limits.{OBJECTS}
 use Rattle.terms.proofs.CountedLaws.{Tested}
