@@ -10,11 +10,11 @@ abbrev pub invariant-loop-o : goal.invariant-loop-o
 invariant-loop-o l =
     (l.o ≤ OBJECTS)
     × Filled
-      (record { live = false; fields = [] })
-      (λ k. if reclaims l.h l.p l.marks.seen k then idle else object_at l.h k)
-      l.h.objects
-      l.o
-      l.after.objects
+    (record { live = false; fields = [] })
+    (λ k. if reclaims l.h l.p l.marks.seen k then idle else object_at l.h k)
+    l.h.objects
+    l.o
+    l.after.objects
     × (l.after.roots ≡ l.h.roots)
 
 abbrev pub decreases-loop-o : goal.decreases-loop-o

@@ -1,5 +1,5 @@
 use Rattle.std.proofs.Common.{ap, not}
-use Rattle.terms.proofs.CountedLaws.{tested_none, tested_fails, tested_more, tested_all}
+use Rattle.terms.proofs.CountedLaws.{tested_fails, tested_more, tested_all}
 use Rattle.step.proofs.collect.marked_live.Goals as goal
 
 pub returns-then-not-live_if_marked : goal.returns-then-not-live_if_marked

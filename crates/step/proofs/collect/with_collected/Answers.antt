@@ -22,9 +22,9 @@ loop-o-preserved c =
     let stays = cell_stays a.t a.p m a.present.seen a.held.seen o c.loop-o-test.true c.requires.seen_value c.requires.seen_value_2 in
     elim c.if-is_changed.branch [
       | then-is_changed w ↦
-        let written : w.with_entry-changed.result ≡ cell_collected a.t a.p m (held_at a.t a.p m) o (cell_at a.t o) =
-        rw (w.with_entry-changed.ensures, w.entry_changed.ensures, w.entry_in-e.ensures, was) (changes (test ∙ w.if-is_changed.true)) in
-        rw w.t-is (omega arith, filled_set filled w.with_entry-changed.result (omega (arith, size)) written, c.loop-o.invariant.2)
+          let written : w.with_entry-changed.result ≡ cell_collected a.t a.p m (held_at a.t a.p m) o (cell_at a.t o) =
+          rw (w.with_entry-changed.ensures, w.entry_changed.ensures, w.entry_in-e.ensures, was) (changes (test ∙ w.if-is_changed.true)) in
+          rw w.t-is (omega arith, filled_set filled w.with_entry-changed.result (omega (arith, size)) written, c.loop-o.invariant.2)
       | else-is_changed w ↦ rw w.t-is (omega arith, filled_keep filled (stays (test ∙ w.if-is_changed.false)), c.loop-o.invariant.2)
     ]
 

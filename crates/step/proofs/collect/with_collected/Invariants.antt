@@ -10,11 +10,11 @@ abbrev pub invariant-loop-o : goal.invariant-loop-o
 invariant-loop-o l =
     (l.o ≤ OBJECTS)
     × Filled
-      (record { at = [] })
-      (λ k. cell_collected l.fn.t l.p l.marks.seen (held_at l.fn.t l.p l.marks.seen) k (cell_at l.fn.t k))
-      l.fn.t.cells
-      l.o
-      l.t.cells
+    (record { at = [] })
+    (λ k. cell_collected l.fn.t l.p l.marks.seen (held_at l.fn.t l.p l.marks.seen) k (cell_at l.fn.t k))
+    l.fn.t.cells
+    l.o
+    l.t.cells
     × (with_cells l.t l.fn.t.cells ≡ l.fn.t)
 
 abbrev pub decreases-loop-o : goal.decreases-loop-o

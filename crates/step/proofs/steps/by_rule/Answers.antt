@@ -1,5 +1,5 @@
 -- That the event fits gives the first operand's range.
-use Rattle.std.proofs.Common.{◌≡◌, ◌<◌, true, sym, ◌∙◌, ltb-true}
+use Rattle.std.proofs.Common.{◌≡◌, ◌<◌, true, sym, ltb-true}
 use Rattle.terms.proofs.ChooseLaws.{and_passes}
 use Rattle.step.specs.Event.{kind_of, ranges_of, fits_event}
 use Rattle.step.specs.declared.Event.{Event}
