@@ -18,6 +18,7 @@ use heap::{Heap, Marks};
 use table::Table;
 
 // For each object of p, whether its directory has RC above 0 or MsgCtr not 0.
+#[tactic(auto, unfolding(crate::specs::Collect::counted))]
 pub(crate) fn counted(t: Table, p: u8) -> [bool; 8]
     requires { p < NODES }
     ensures { result ≡ counted t p }
@@ -118,6 +119,7 @@ pub(crate) fn fields_allowed(h: Heap, p: u8, present: Marks, o: u8) -> bool
 }
 
 // The same if the object is kept; the fields of one that isn't kept are not asked.
+#[tactic(auto, unfolding(terms::specs::Counted::all))]
 pub(crate) fn object_allowed(h: Heap, p: u8, present: Marks, marks: Marks, o: u8) -> bool
     requires { o < OBJECTS }
     ensures { result ≡ all (may_hold_by present.seen p) (if is_marked marks.seen o then fields_of h o else []) }
@@ -276,6 +278,7 @@ pub(crate) fn with_collected(
     t
 }
 
+#[tactic(auto, unfolding(crate::specs::Collect::collect_keeping, crate::specs::Collect::collect_holding))]
 pub(crate) fn collect(t: Table, p: u8) -> Outcome
     requires { p < NODES }
     ensures { result ≡ by t (collect t p) }

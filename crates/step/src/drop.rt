@@ -24,6 +24,7 @@ pub fn last_words(p: u8, o: u8, e: Remote) -> Message
     }
 }
 
+#[tactic(auto, unfolding(crate::specs::Drop::drop_of))]
 pub(crate) fn drop_directory(t: Table, p: u8, o: u8, d: Directory) -> Outcome
     ensures { result ≡ by t (drop_of t p o (AtOwner d)) }
 {
@@ -34,6 +35,7 @@ pub(crate) fn drop_directory(t: Table, p: u8, o: u8, d: Directory) -> Outcome
     did(Deed::Cleared, t.with_entry(p, o, Entry::Absent))
 }
 
+#[tactic(auto, unfolding(crate::specs::Drop::drop_of))]
 pub(crate) fn drop_remote(t: Table, p: u8, o: u8, remote: Remote) -> Outcome
     ensures { result ≡ by t (drop_of t p o (Elsewhere remote)) }
 {
@@ -49,6 +51,7 @@ pub(crate) fn drop_remote(t: Table, p: u8, o: u8, remote: Remote) -> Outcome
     did(Deed::Dropped(s), told.with_entry(p, o, Entry::Absent))
 }
 
+#[tactic(auto, unfolding(crate::specs::Drop::drop_of))]
 pub(crate) fn drop(t: Table, p: u8, o: u8) -> Outcome
     ensures { result ≡ by t (drop t p o) }
 {

@@ -10,6 +10,7 @@ use heap::Heap;
 use table::Table;
 
 // LOAD P r q f: root r takes field f of the object in root q.
+#[tactic(auto, unfolding(crate::specs::Load::load))]
 pub(crate) fn load(t: Table, p: u8, r: u8, q: u8, f: u8) -> Outcome
     ensures { result ≡ by t (load t p r q f) }
 {
@@ -30,6 +31,7 @@ pub(crate) fn load(t: Table, p: u8, r: u8, q: u8, f: u8) -> Outcome
 }
 
 // STORE P q f r: field f of the object in root q takes what root r holds.
+#[tactic(auto, unfolding(crate::specs::Store::store))]
 pub(crate) fn store(t: Table, p: u8, q: u8, f: u8, r: u8) -> Outcome
     ensures { result ≡ by t (store t p q f r) }
 {

@@ -9,6 +9,7 @@ use crate::{Deed, Outcome};
 use heap::Heap;
 use table::Table;
 
+#[tactic(auto, unfolding(crate::specs::New::new))]
 pub(crate) fn new(t: Table, p: u8, r: u8) -> Outcome
     requires { p < NODES }
     ensures { result ≡ by t (new t p r) }

@@ -77,6 +77,7 @@ pub(crate) fn with_received(t: Table, s: u8, r: u8, from: u8, to: u8, o: u8, e: 
     counted.with_heap(h.with_root(to, r, o))
 }
 
+#[tactic(auto, unfolding(crate::specs::Receive::receive_of))]
 pub(crate) fn receive_reference(t: Table, s: u8, r: u8, from: u8, to: u8, o: u8) -> Outcome
     ensures { result ≡ by t (receive_of t s r (Reference from to o)) }
 {
@@ -91,6 +92,7 @@ pub(crate) fn receive_reference(t: Table, s: u8, r: u8, from: u8, to: u8, o: u8)
     did(receipt(s, from, e), with_received(t, s, r, from, to, o, e))
 }
 
+#[tactic(auto, unfolding(crate::specs::Receive::receive_of))]
 pub(crate) fn receive(t: Table, s: u8, r: u8) -> Outcome
     ensures { result ≡ by t (receive t s r) }
 {

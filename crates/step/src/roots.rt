@@ -20,6 +20,7 @@ pub(crate) fn move_root(t: Table, p: u8, r: u8, q: u8) -> Outcome
 }
 
 // CLEAR P r: root r becomes empty.
+#[tactic(auto, unfolding(crate::specs::Clear::clear))]
 pub(crate) fn clear_root(t: Table, p: u8, r: u8) -> Outcome
     ensures { result ≡ by t (clear t p r) }
 {

@@ -31,6 +31,7 @@ pub(crate) fn send_torn(t: Table, p: u8, q: u8, o: u8) -> bool
     act.refuses()
 }
 
+#[tactic(auto, unfolding(crate::specs::Send::send))]
 pub(crate) fn send(t: Table, p: u8, r: u8, q: u8) -> Outcome
     ensures { result ≡ by t (send t p r q) }
 {

@@ -9,6 +9,7 @@ use crate::{Deed, Outcome};
 use entry::{ReturnCount, Weight};
 use table::{Message, Table};
 
+#[tactic(auto, unfolding(crate::specs::Settle::settle_of))]
 pub(crate) fn settle_decrement(
     t: Table,
     s: u8,
@@ -30,6 +31,7 @@ pub(crate) fn settle_decrement(
     did(Deed::Settled, emptied.with_entry(to, o, receiver))
 }
 
+#[tactic(auto, unfolding(crate::specs::Settle::settle_of))]
 pub(crate) fn settle(t: Table, s: u8) -> Outcome
     ensures { result ≡ by t (settle t s) }
 {

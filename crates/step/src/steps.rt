@@ -18,6 +18,7 @@ use crate::{Event, Kind, Outcome};
 use table::Table;
 
 // The rule of the event's kind.
+#[tactic(auto, unfolding(crate::specs::Step::rule_for))]
 pub(crate) fn by_rule(t: Table, e: Event) -> Outcome
     requires { fits_event e ≡ true }
     ensures { result ≡ by t (rule_of t e) }
