@@ -64,7 +64,7 @@ pub record Droppable (t : Table) (o : ℕ) : Type 0 where
 
 -- "until then": a decrement or a drop is at hand, and a SETTLE of o is refused only by ENDED
 pub record Onward (t : Table) (o : ℕ) : Type 0 where
-  pub one_more_lem : InAir t o ⊎ Droppable t o
+  pub one_more : InAir t o ⊎ Droppable t o
   pub settles : (s : ℕ) → s < PLACES → is_decrement_of o (message_at t s) ≡ true → RefusedOnlyBy (ENDED ∷ []) t (event SETTLE s 0 0 0)
 
 -- ---- the law

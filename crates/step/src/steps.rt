@@ -40,7 +40,7 @@ pub(crate) fn by_rule(t: Table, e: Event) -> Outcome
 }
 
 // An accepted event adds 1 to the count.
-pub(crate) fn one_more_lem(n: u32, o: Outcome) -> Outcome
+pub(crate) fn one_more(n: u32, o: Outcome) -> Outcome
     requires { n < EVENTS }
     ensures { result ≡ one_more n o }
 {
@@ -71,5 +71,5 @@ pub fn step(t: Table, e: Event) -> Outcome
     if Table::EVENTS <= n {
         return refused(t, Outcome::ENDED);
     }
-    one_more_lem(n, by_rule(t, e))
+    one_more(n, by_rule(t, e))
 }

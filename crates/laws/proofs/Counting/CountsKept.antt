@@ -54,10 +54,10 @@ module _ (t : Table) (shape : fits_table t ≡ true) where
 -- an event that changes every object by one act, and adds one to the count
 pub counted_kept : (t u : Table) → fits_table t ≡ true → fits_table u ≡ true → u.count ≡ t.count + 1 → ((o : ℕ) → o < OBJECTS → Change t u o)
     → Counted t → Counted u
-counted_kept t u before after one_more_lem change counted =
+counted_kept t u before after one_more change counted =
     all_counted u after
     (λ o lo. lawful_kept (change o lo) before lo (counted_lawful t before counted o lo))
-    (λ o lo. subst (λ (n : ℕ). Within n u o) (sym one_more_lem) (within_kept (change o lo) before lo (counted_within t before counted o lo)))
+    (λ o lo. subst (λ (n : ℕ). Within n u o) (sym one_more) (within_kept (change o lo) before lo (counted_within t before counted o lo)))
 
 -- nothing is counted in the fresh table
 pub counted_fresh : fits_table fresh_table ≡ true → Counted fresh_table

@@ -110,7 +110,7 @@ module _ (t : Table) (o : ℕ) (shape : fits_table t ≡ true) (lo : o < OBJECTS
     -- while something is due
     pub onward : Unused t o → 0 < due t o → Onward t o
     onward idle some = record {
-      one_more_lem = ⊎_elim inl (λ leaf. inr (droppable leaf.0 leaf.1 leaf.2.0 leaf.2.1))
+      one_more = ⊎_elim inl (λ leaf. inr (droppable leaf.0 leaf.1 leaf.2.0 leaf.2.1))
           (due_onward t o shape lo (counted_lawful t shape counted o lo) idle some);
       settles = settle_free;
     }
