@@ -1,6 +1,6 @@
 -- The bytes of the records that tell one thing of the field, made by themselves (document 01, "Saved image"): what is asked of them, and how
 -- many they are. Assumes nothing.
-use Rattle.std.specs.Prelude.{◌≡◌, refl, Bool, true, false, List, [], ◌∷◌, ℕ, ◌≤◌, length, take, get_or, if◌then◌else◌}
+use Rattle.std.specs.Prelude.{◌≡◌, refl, Bool, true, false, [], ◌∷◌, ℕ, length, get_or, if◌then◌else◌}
 use Rattle.entry.specs.declared.Entry.{Entry}
 use Rattle.entry.specs.declared.Entry.TheVariants as e
 use Rattle.heap.specs.declared.Object.{Object}

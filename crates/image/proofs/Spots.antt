@@ -1,5 +1,5 @@
 -- The spots of a table: each has one record or none in the image, at a position of its own. Assumes nothing.
-use Rattle.std.specs.Prelude.{◌≡◌, refl, true, List, [], ◌∷◌, ℕ, ◌+◌, ◌*◌}
+use Rattle.std.specs.Prelude.{◌≡◌, refl, true, List, [], ℕ}
 use Rattle.terms.specs.Limits.{owner}
 use Rattle.entry.specs.declared.Entry.{Entry}
 use Rattle.entry.specs.declared.Entry.TheVariants.{Absent, AtOwner, Elsewhere}

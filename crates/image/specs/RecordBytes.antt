@@ -1,6 +1,6 @@
 -- The bytes of the records that tell one thing of the field, made by themselves (document 01, "Saved image"): what is asked of them, and how
 -- many they are. Assumes nothing.
-use Rattle.std.specs.Prelude.{◌≡◌, refl, Bool, true, false, List, [], ◌∷◌, ℕ, ◌≤◌, length, take, get_or}
+use Rattle.std.specs.Prelude.{◌≡◌, List, ◌≤◌, length, take}
 use Rattle.image.specs.declared.RecordBytes.{RecordBytes}
 use Rattle.image.specs.Records.{Record}
 use Rattle.image.specs.Writer.{bytes_of_all}

@@ -1,5 +1,5 @@
 -- The spots of a table: each has one record or none in the image, at a position of its own. Assumes nothing.
-use Rattle.std.specs.Prelude.{◌≡◌, refl, true, List, [], ◌∷◌, ℕ, ◌+◌, ◌*◌}
+use Rattle.std.specs.Prelude.{List, [], ◌∷◌, ℕ, ◌+◌, ◌*◌}
 use Rattle.terms.specs.Limits.{owner}
 use Rattle.table.specs.declared.Table.{Table}
 use Rattle.table.specs.Table.{entry_at, message_at}

@@ -1,5 +1,5 @@
 -- The loop of the check: the reader's loop, whose table nobody keeps. Assumes nothing.
-use Rattle.std.proofs.Common.{◌≡◌, refl, sym, ap, ◌∙◌, false, List, [], ◌∷◌, ℕ, ◌+◌, ◌-◌, ◌≤◌, ◌<◌, length, drop}
+use Rattle.std.proofs.Common.{◌≡◌, refl, sym, ap, ◌∙◌, false, List, ℕ, ◌+◌, ◌-◌, ◌≤◌, ◌<◌, length, drop}
 use Rattle.terms.specs.Numbers.{ACCEPTED}
 use Rattle.heap.specs.declared.Heap.{Heap}
 use Rattle.heap.specs.Heap.{fresh_heap}

@@ -1,15 +1,12 @@
 -- What the record at the front tells, by its frame and its position as the code tries them. Assumes nothing.
 use Rattle.std.specs.Prelude.{if◌then◌else◌}
-use Rattle.std.proofs.Common.{◌≡◌, refl, Bool, true, false, List, ◌∷◌, [], ℕ, ◌+◌, ◌≤◌, ◌<◌, arith, eqb, length, drop, length-drop, drop-drop}
-use borrow.Author.Tests.{eq-eqb, ne_eqb}
-use Rattle.image.specs.declared.Found.{Found}
+use Rattle.std.proofs.Common.{◌≡◌, refl, Bool, true, false, List, ◌∷◌, [], ℕ, ◌+◌, ◌≤◌, ◌<◌, arith, eqb, length, drop, length-drop}
 use Rattle.image.specs.declared.Frame.{Frame}
 use Rattle.image.specs.declared.Frame.TheVariants.{Refused, Whole}
-use Rattle.image.specs.declared.Held.{Held}
 use Rattle.image.specs.declared.Held.TheVariants.{Nothing}
 use Rattle.image.specs.declared.RecordKind.{RecordKind}
 use Rattle.image.specs.declared.RecordKind.TheVariants.{Count, Live, NodeRoots, Directory, Remote, Reference, Decrement, End, Unknown}
-use Rattle.image.specs.Find.{offset, at_frame, front_at, held_in, held_of, size_of, found_from}
+use Rattle.image.specs.Find.{at_frame, front_at, held_in, held_of, size_of}
 use Rattle.image.specs.Front.{frame_of}
 use Rattle.image.specs.Order.{position_of}
 use Rattle.image.specs.Reader.{payload}

@@ -6,7 +6,6 @@ use crate::fronts::front_of;
 use image::{Loaded, RecordKind, Turn};
 
 // The answer that `read` gives: the first refusal, or 0 at the end record.
-#[tactic(auto, unfolding(image::specs::Check::check))]
 pub fn check(bytes: &[u8]) -> u8
     ensures { result ≡ check bytes.now }
 {

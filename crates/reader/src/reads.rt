@@ -23,7 +23,6 @@ fn loaded(answer: u8, table: Table) -> Loaded
 
 // The table whose image the bytes are, or the first refusal. Each record goes into a table of this function's own, since a call would copy
 // it; the heap is filled beside it. A refusal starts over, so that the fresh state is made in one place only and handed back.
-#[tactic(auto, unfolding(image::specs::Reader::read))]
 pub fn read(bytes: &[u8]) -> Loaded
     ensures { result ≡ read bytes.now }
 {
