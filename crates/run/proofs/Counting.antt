@@ -1,10 +1,5 @@
 -- Sums in a loop: one number more, and how large a sum can be; and what one deed adds to a run's counts. Assumes nothing.
-use mathlib.Core.Path.{◌≡◌, refl}
-use mathlib.Core.Bool.{Bool, true, false}
-use Prim.Native.Nat.{ℕ, zero, suc, ◌+◌, ◌*◌, ◌<◌, ◌≤◌}
-use native.Mathlib.Nat.{mul-suc}
-use native.Mathlib.Numerals.{add-one}
-use native.Mathlib.Omega.{arith}
+use Rattle.std.proofs.Common.{◌≡◌, refl, ℕ, zero, suc, ◌+◌, ◌*◌, ◌<◌, ◌≤◌, Bool, true, false, add-one, mul-suc, arith}
 use Rattle.terms.specs.Counted.{sum_from, sum, one}
 use Rattle.terms.proofs.CountedLaws.{sum_last}
 use Rattle.step.specs.declared.Deed.{Deed}
@@ -25,9 +20,6 @@ module _ (limit : ℕ) (f : ℕ → ℕ) where
 
   pub summed_more : {i n x : ℕ} → Summed i n → i < limit → x ≡ f i → Summed (i + 1) (n + x)
   summed_more {i} {n} {x} s lt e = (omega arith, rw (s.1, e, add-one, sum_last i f))
-
-  pub summed_all : {i n : ℕ} → Summed i n → limit ≤ i → n ≡ sum limit f
-  summed_all {i} {n} s ge = let all : i ≡ limit = omega arith in rw all at s.1
 
   -- where no part is more than b, the sum with one part more is not large
   module _ (b : ℕ) (most : (k : ℕ) → f k ≤ b) where

@@ -1,16 +1,5 @@
 -- A run record by record: what is still to be told, from the records that are left, makes the whole with what was written. Assumes nothing.
-use Rattle.std.specs.Prelude.{if◌then◌else◌}
-use mathlib.Core.Path.{◌≡◌, refl, sym, ap, ◌∙◌}
-use mathlib.Core.Bool.{Bool, true, false, not}
-use mathlib.Core.List.{List, ◌++◌}
-use mathlib.Core.Logic.{◌⊎◌, ⊎_elim}
-use Prim.Native.Nat.{ℕ, suc, ◌+◌, ◌*◌, ◌-◌, ◌<◌, ◌≤◌}
-use native.Mathlib.Omega.{arith}
-use denote.Enum.Declared.{tag_of}
-use lib.Dec.{eqb, ltb}
-use borrow.Author.Tests.{ltb-false}
-use lib.ListN.{length, drop, length-drop}
-use lib.Seq.{drop-drop}
+use Rattle.std.proofs.Common.{◌≡◌, refl, sym, ap, ◌∙◌, ℕ, suc, ◌+◌, ◌*◌, ◌-◌, ◌<◌, ◌≤◌, Bool, true, false, not, eqb, ltb, ltb-false, List, ◌++◌, if◌then◌else◌, length, drop, length-drop, drop-drop, arith}
 use Rattle.terms.specs.Numbers.{ACCEPTED}
 use Rattle.step.specs.declared.Event.{Event}
 use Rattle.step.specs.EventRecord.{RECORD, event_in, states_event}
@@ -24,7 +13,6 @@ use Rattle.run.specs.Next.{next}
 use Rattle.run.specs.Ran.{LINE, Ended, told}
 use Rattle.run.specs.Run.{RECORDS, after, beginning, ending, end_from, end_of, line, run_end, run_from, run_text, summary, text_of}
 use Rattle.run.proofs.Counting.{one_decrement}
-use Rattle.run.specs.contracts.Next as front-type
 use Rattle.run.proofs.Written.{wrote_both, wrote_length}
 
 -- ---- one record
@@ -43,17 +31,17 @@ found_whole l e = go (eqb (length l) 0) (ltb (length l) RECORD) refl
 
 -- what is not an event ends the run
 abbrev pub Untaken : Next → Type 0
-Untaken front = (tag_of front-type.the_type front ≡ 0) ⊎ (tag_of front-type.the_type front ≡ 1)
+Untaken front = (e : Event) → front ≡ Found e → ⊥
 
 untaken_text : (p : Progress) (front : Next) (go : Progress → List ℕ) → Untaken front → text_of p front go ≡ ending (summary p) front
 untaken_text p Nothing go k = refl
 untaken_text p Broken go k = refl
-untaken_text p (Found e) go k = absurd (⊎_elim (λ q. omega arith) (λ q. omega arith) k)
+untaken_text p (Found e) go k = absurd (k e refl)
 
 untaken_end : (p : Progress) (front : Next) (go : Progress → Progress) → Untaken front → end_of p front go ≡ p
 untaken_end p Nothing go k = refl
 untaken_end p Broken go k = refl
-untaken_end p (Found e) go k = absurd (⊎_elim (λ q. omega arith) (λ q. omega arith) k)
+untaken_end p (Found e) go k = absurd (k e refl)
 
 -- ---- on the way
 

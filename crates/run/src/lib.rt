@@ -78,7 +78,6 @@ fn finish(out: &mut [u8], at: usize, p: Progress, front: Next) -> Ran
 }
 
 // A line for each event, and what ends the run.
-#[tactic(auto, unfolding(crate::specs::Run::run_text))]
 fn tell(input: &[u8], out: &mut [u8]) -> Ran
     requires { TEXT ≤ length out.old }
     ensures { (result ≡ told input.now) × Wrote out.old 0 (run_text input.now) out.new result.length }

@@ -165,7 +165,6 @@ fn put_all(text: &[u8], out: &mut [u8]) -> usize
 }
 
 // The records of the scenario at the front of out. With a bad line, or too little room, out is as it was.
-#[tactic(auto, unfolding(crate::specs::Records::written_of, crate::specs::Records::buffer_of))]
 pub fn write_events(text: &[u8], out: &mut [u8]) -> Written
     ensures value { result ≡ written_of text.now (length out.old) }
     ensures out_after { out.new ≡ buffer_of text.now out.old }
