@@ -26,6 +26,7 @@ fn say_not_read(rt: &impl Eprint) -> io::Result<()> {
 }
 
 // Writes the records of text, by way of out, or says why there are none.
+#[tactic(auto, using(scenario::specs::RecordLaws::written_fits))]
 fn answer(rt: &(impl Print + Eprint), text: &[u8], out: &mut [u8]) -> io::Result<()> {
     let written = scenario::write_events(text, out);
     let length = written.length;
