@@ -1,5 +1,5 @@
--- A part of the walk: what it makes of the marks that came in (`Visited`), how parts come one after the other, and when the parts are
--- the whole. Assumes nothing.
+-- A part of the walk: what it makes of the marks that came in (`Visited`), how parts come one after the other, and when the parts are the whole.
+-- What is said of it stands here, and why it holds in proofs/Visit.antt. Assumes nothing.
 use Rattle.std.specs.Prelude.{◌≡◌, true, List, ◌⊎◌, ℕ, ◌<◌, length}
 use Rattle.terms.specs.Counted.{holds}
 use Rattle.terms.specs.Limits.{OBJECTS, FIELDS}

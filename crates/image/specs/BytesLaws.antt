@@ -1,4 +1,5 @@
--- Numbers to bytes and back lose nothing, singly and packed one behind the other. Assumes nothing.
+-- Numbers to bytes and back lose nothing, singly and packed one behind the other. What is said of it stands here, and why it holds in
+-- proofs/BytesLaws.antt. Assumes nothing.
 use Rattle.std.specs.Prelude.{List, [], ◌∷◌, ℕ, ◌<◌}
 
 -- each is a byte

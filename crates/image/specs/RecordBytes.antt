@@ -1,5 +1,5 @@
--- The bytes of the records that tell one thing of the field, made by themselves (document 01, "Saved image"): what is asked of them, and how
--- many they are. Assumes nothing.
+-- The bytes of the records that tell one thing of the field, made by themselves (document 01, "Saved image"): what is asked of them, and how many
+-- they are. What is said of it stands here, and why it holds in proofs/RecordBytesLaws.antt. Assumes nothing.
 use Rattle.std.specs.Prelude.{◌≡◌, List, ◌≤◌, length, take}
 use Rattle.image.specs.declared.RecordBytes.{RecordBytes}
 use Rattle.image.specs.Records.{Record}

@@ -1,4 +1,5 @@
--- The spots of a table: each has one record or none in the image, at a position of its own. Assumes nothing.
+-- The spots of a table: each has one record or none in the image, at a position of its own. What is said of it stands here, and why it holds in
+-- proofs/Spots.antt. Assumes nothing.
 use Rattle.std.specs.Prelude.{List, [], ◌∷◌, ℕ, ◌+◌, ◌*◌}
 use Rattle.terms.specs.Limits.{owner}
 use Rattle.table.specs.declared.Table.{Table}

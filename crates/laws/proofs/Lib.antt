@@ -1,7 +1,8 @@
--- What holds of every sequence of accepted events, in reading order: what is said stands here, why it holds in the folders.
+-- What holds of every sequence of accepted events, in reading order: why it holds. What is said stands in specs/.
 
 -- all of it on one page
 pub mod Promises
+-- the test that computes says the same as Sound
 pub mod SoundTestLaws
 -- ---- why it holds
 

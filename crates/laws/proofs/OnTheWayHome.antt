@@ -1,6 +1,6 @@
 -- What the return count adds to RC (document 01, laws A, B and C): where the directory's RC is 0, its MsgCtr is exactly the number of references
 -- on their way home, of which RC knows nothing. Assumes nothing.
-use Rattle.std.specs.Prelude.{◌≡◌, true, ℕ, ◌<◌, pos}
+use Rattle.std.specs.Prelude.{◌≡◌, true}
 use Rattle.counting.proofs.Homeward.{returns-homeward}
 use Rattle.table.specs.declared.Table.{Table}
 use Rattle.table.specs.Shape.{fits_table}

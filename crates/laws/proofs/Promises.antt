@@ -1,10 +1,8 @@
 -- What holds of every table that accepted events make of the fresh one (document 01, "Laws over all accepted sequences from the fresh state", and
 -- demand 3): all of it on one page, each sentence with its proof. The definitions that it speaks of are those that the code is proved to meet.
 -- Assumes nothing.
-use Rattle.std.specs.Prelude.{◌≡◌, true, false, ℕ, ◌<◌}
-use Rattle.terms.specs.Limits.{owner}
+use Rattle.std.specs.Prelude.{◌≡◌, true}
 use Rattle.table.specs.Shape.{fits_table}
-use Rattle.step.specs.Event.{event}
 use Rattle.laws.proofs.Draining.LawEHolds.{law_e}
 use Rattle.laws.proofs.Heap.Alive.{law_d}
 use Rattle.laws.proofs.Heap.CollectSafe.{collect_exact, collect_safe}

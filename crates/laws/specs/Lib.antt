@@ -1,4 +1,4 @@
--- What holds of every sequence of accepted events, in reading order: what is said stands here, why it holds in the folders.
+-- What holds of every sequence of accepted events, in reading order: what is said stands here, why it holds in proofs/.
 
 -- all of it on one page
 pub mod Promises
@@ -15,13 +15,13 @@ pub mod LawE
 -- what every accepted event keeps, and the same as a test that computes
 pub mod Sound
 pub mod SoundTest
--- ---- why it holds
+-- ---- what the proofs speak of
 
--- what an accepted event did, and that it keeps the shape
+-- what an accepted event did
 pub mod Events
--- one object's entries and messages: laws A, B and C, and clear means nobody
+-- one object's entries and messages
 pub mod Counting
--- what nodes hold: law D, COLLECT and NEW
+-- what nodes hold
 pub mod Heap
 -- what the return count adds to RC
 pub mod OnTheWayHome

@@ -1,6 +1,6 @@
--- What the return count adds to RC (document 01, laws A, B and C): where the directory's RC is 0, its MsgCtr is exactly the number of references
--- on their way home, of which RC knows nothing. Assumes nothing.
-use Rattle.std.specs.Prelude.{◌≡◌, true, ℕ, ◌<◌, pos}
+-- What the return count adds to RC (document 01, laws A, B and C): where the directory's RC is 0, its MsgCtr is exactly the number of references on
+-- their way home, of which RC knows nothing. What is said of it stands here, and why it holds in proofs/OnTheWayHome.antt. Assumes nothing.
+use Rattle.std.specs.Prelude.{◌≡◌, ℕ, ◌<◌, pos}
 use Rattle.terms.specs.Counted.{how_many}
 use Rattle.terms.specs.Limits.{OBJECTS, PLACES, owner}
 use Rattle.entry.specs.Entry.{msg_ctr_of, rc_of}

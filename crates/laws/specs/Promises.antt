@@ -1,6 +1,6 @@
 -- What holds of every table that accepted events make of the fresh one (document 01, "Laws over all accepted sequences from the fresh state", and
--- demand 3): all of it on one page, each sentence with its proof. The definitions that it speaks of are those that the code is proved to meet.
--- Assumes nothing.
+-- demand 3): all of it on one page, each sentence with its proof. The definitions that it speaks of are those that the code is proved to meet. What
+-- is said of it stands here, and why it holds in proofs/Promises.antt. Assumes nothing.
 use Rattle.std.specs.Prelude.{◌≡◌, true, false, ℕ, ◌<◌}
 use Rattle.terms.specs.Limits.{NODES, OBJECTS, PLACES, owner}
 use Rattle.terms.specs.Numbers.{ACCEPTED}

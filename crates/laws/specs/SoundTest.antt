@@ -1,5 +1,5 @@
 -- Sound as a test that computes (request P7 of document 02 asks it of a loaded table): the conditions of specs/Sound.antt, one by one, in the
--- same order. specs/SoundTestLaws.antt proves that a table passes exactly where it is Sound. Definitions only; assumes nothing.
+-- same order. proofs/SoundTestLaws.antt proves that a table passes exactly where it is Sound. Definitions only; assumes nothing.
 use Rattle.std.specs.Prelude.{Bool, true, false, not, ℕ, eqb, leb, ℤ, pos, negsuc, ◌+ℤ◌}
 use Rattle.terms.specs.Choose.{◌and◌, ◌or◌}
 use Rattle.terms.specs.Counted.{every, how_many}

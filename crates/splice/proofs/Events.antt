@@ -12,7 +12,7 @@ use Rattle.table.specs.declared.Table.{Table}
 use Rattle.table.specs.Formed.{Formed}
 use Rattle.table.specs.Table.{entry_at, with_count, with_entry, with_heap, with_message}
 use Rattle.image.proofs.OneSpot.{count_only, object_only, object_here, roots_only, roots_here, message_only, message_here}
-use Rattle.image.specs.Spots.{object, roots, directory, message, spot_position}
+use Rattle.image.specs.Spots.{directory, message, spot_position}
 use Rattle.splice.specs.Changed.{roots_with, entry_spot}
 use Rattle.splice.proofs.Changed.{Proper, entry_within, entry_between, entry_here, entry_only}
 use Rattle.splice.specs.Patched.{Differs}
@@ -57,7 +57,6 @@ module _ (t : Table) (formed : Formed t) (n : ℕ) where
 -- ---- entries and messages
 module _ (t : Table) (formed : Formed t) (n p o : ℕ) (lp : p < NODES) (lo : o < OBJECTS) (e : Entry)
     (was : Proper p o (entry_at t p o)) (is : Proper p o e) where
-
   place : (spot_position (directory 0) ≤ spot_position (entry_spot p o)) × (spot_position (entry_spot p o) < spot_position (message 0))
   place = entry_between p o lp lo
 

@@ -1,6 +1,6 @@
 -- The changes of each kind of event but COLLECT, as its rule makes them (document 01, "Events"). MOVE, CLEAR and LOAD are root-differs of
 -- Events.antt as it stands. Assumes nothing.
-use Rattle.std.specs.Prelude.{◌≡◌, Bool, ℕ, ◌<◌, eqb, set, if◌then◌else◌}
+use Rattle.std.specs.Prelude.{◌≡◌, Bool, ℕ, ◌<◌, eqb, if◌then◌else◌}
 use Rattle.std.proofs.Math.Path.{refl}
 use Rattle.std.proofs.Math.Bool.{true, false}
 use mathlib.Core.List.{[], ◌∷◌}

@@ -44,7 +44,6 @@ module _ (f : Spot → List Record) where
   joined_append : (l more : List Spot) (rest : List Record) → joined f (l ++ more) rest ≡ joined f l (joined f more rest)
   unfolding joined
   joined_append [] more rest = refl
-
   joined_append (s ∷ l) more rest = ap (λ (rs : List Record). f s ++ rs) (joined_append l more rest)
 
   joined_list : (k n : ℕ) (g : ℕ → Spot) (rest : List Record) → joined f (list_from k n g) rest ≡ gather_from k n (λ i. f (g i)) ++ rest

@@ -1,7 +1,6 @@
--- What each event but COLLECT changes (document 01, "Events"): at most four records, of the count, an object or a node's roots, an entry
--- and a place in the air. Assumes nothing.
-use Rattle.std.specs.Prelude.{refl, [], ◌∷◌, ℕ, ◌≤◌, ◌<◌}
-use Rattle.std.proofs.Common.{◌∙◌, arith}
+-- What each event but COLLECT changes (document 01, "Events"): at most four records, of the count, an object or a node's roots, an entry and a
+-- place in the air. What is said of it stands here, and why it holds in proofs/Events.antt. Assumes nothing.
+use Rattle.std.specs.Prelude.{[], ◌∷◌, ℕ}
 use Rattle.entry.specs.declared.Entry.{Entry}
 use Rattle.heap.specs.declared.Object.{Object}
 use Rattle.heap.specs.declared.Roots.{Roots}

@@ -1,10 +1,6 @@
 -- The changes of each kind of event but COLLECT, as its rule makes them (document 01, "Events"). MOVE, CLEAR and LOAD are root-differs of
--- Events.antt as it stands. Assumes nothing.
-use Rattle.std.specs.Prelude.{◌≡◌, Bool, ℕ, ◌<◌, eqb, set}
-use Rattle.std.proofs.Math.Path.{refl}
-use Rattle.std.proofs.Math.Bool.{true, false}
-use mathlib.Core.List.{[], ◌∷◌}
-use Rattle.std.proofs.Common.{arith, eq-eqb}
+-- Events.antt as it stands. What is said of it stands here, and why it holds in proofs/KindLaws.antt. Assumes nothing.
+use Rattle.std.specs.Prelude.{ℕ, set}
 use Rattle.heap.specs.declared.Object.{Object}
 use Rattle.heap.specs.Heap.{is_live, object_at}
 use Rattle.table.specs.declared.Table.{Table}

@@ -1,8 +1,7 @@
--- Records in the order of their positions (document 01, "Order"): those before a position, those from it on, and what stands at it. Assumes nothing.
-use Rattle.std.specs.Prelude.{◌≡◌, Bool, true, false, ℕ, suc, ◌≤◌, ◌<◌, ltb, length, if◌then◌else◌}
-use Rattle.std.proofs.Math.Path.{refl}
-use Rattle.std.proofs.Common.{sym, ap, subst, ◌∙◌, arith, ltb-true, lt-ltb, le-ltb}
-use mathlib.Core.List.{List, [], ◌∷◌, ◌++◌, append-nil}
+-- Records in the order of their positions (document 01, "Order"): those before a position, those from it on, and what stands at it. What is said of
+-- it stands here, and why it holds in proofs/Parts.antt. Assumes nothing.
+use Rattle.std.specs.Prelude.{ℕ, suc, ltb, if◌then◌else◌}
+use mathlib.Core.List.{List, [], ◌∷◌}
 use Rattle.image.specs.Order.{position_of}
 use Rattle.image.specs.Records.{Record}
 

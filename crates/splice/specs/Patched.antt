@@ -1,18 +1,12 @@
--- Records with something else at some positions: where two tables differ at a few spots, the records of one are those of the other with
--- these replaced. Assumes nothing.
-use Rattle.std.specs.Prelude.{◌≡◌, leb}
-use Rattle.std.proofs.Math.Path.{refl, sym, ap}
-use Rattle.std.proofs.Common.{◌∙◌, arith}
-use Rattle.std.proofs.Math.Bool.{true}
-use mathlib.Core.List.{List, [], ◌∷◌, ◌++◌}
-use Prim.Native.Nat.{ℕ, suc, ◌≤◌, ◌<◌}
-use Rattle.std.proofs.Math.Decide.{dec_lt}
-use borrow.Author.Tests.{leb-true, le-leb}
+-- Records with something else at some positions: where two tables differ at a few spots, the records of one are those of the other with these
+-- replaced. What is said of it stands here, and why it holds in proofs/Patched.antt. Assumes nothing.
+use Rattle.std.specs.Prelude.{◌≡◌}
+use mathlib.Core.List.{List, [], ◌∷◌}
+use Prim.Native.Nat.{ℕ, suc, ◌≤◌}
 use Rattle.table.specs.declared.Table.{Table}
 use Rattle.image.specs.Records.{Record}
 use Rattle.image.specs.Spots.{Spot, spot_position, record_at}
-use Rattle.splice.specs.Parts.{from}
-use Rattle.splice.specs.Spread.{spots, Within}
+use Rattle.splice.specs.Spread.{Within}
 
 -- what is to stand at a spot
 pub record Change : Type 0 where

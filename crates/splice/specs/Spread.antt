@@ -1,15 +1,7 @@
--- The records of a table, spot by spot in the order of the image (document 01, "Order"): what is proved of a list of rising spots holds of
--- every table. Assumes nothing.
-use Rattle.std.specs.Prelude.{◌≡◌, Bool, false, leb, length}
-use Rattle.std.proofs.Math.Path.{refl, sym, ap}
-use Rattle.std.proofs.Common.{◌∙◌, arith}
-use Rattle.std.proofs.Math.Logic.{⊎_elim}
-use Rattle.std.proofs.Math.Bool.{true}
-use mathlib.Core.List.Memᴰ
-use mathlib.Core.List.{List, [], ◌∷◌, ◌++◌, append_assoc, Memᴰ}
-use Prim.Native.Nat.{ℕ, zero, suc, ◌+◌, ◌*◌, ◌≤◌, ◌<◌}
-use Rattle.std.proofs.Math.Decide.{ℕ_discrete}
-use borrow.Author.Tests.{leb-true}
+-- The records of a table, spot by spot in the order of the image (document 01, "Order"): what is proved of a list of rising spots holds of every
+-- table. What is said of it stands here, and why it holds in proofs/Spread.antt. Assumes nothing.
+use mathlib.Core.List.{List, ◌∷◌, ◌++◌}
+use Prim.Native.Nat.{◌<◌}
 use Rattle.terms.specs.Counted.{list, gather}
 use Rattle.terms.specs.Limits.{NODES, OBJECTS, PLACES}
 use Rattle.image.specs.Spots.{Spot, count, object, roots, directory, remote, message}

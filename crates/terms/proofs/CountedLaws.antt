@@ -1,5 +1,5 @@
 -- What the definitions of specs/Counted.antt come to: each with its last or its first number taken off, as a loop needs it, and what tests and
--- sums tell of single numbers (lists are in specs/ListLaws.antt). Assumes nothing.
+-- sums tell of single numbers (lists are in proofs/ListLaws.antt). Assumes nothing.
 use Rattle.std.specs.Prelude.{◌≡◌, refl, Bool, true, false, not, List, [], ◌∷◌, ◌++◌, ◌⊎◌, ℕ, zero, suc, ◌+◌, ◌-◌, ◌<◌, ◌≤◌, if◌then◌else◌}
 use Rattle.std.proofs.Common.{sym, ◌∙◌, append-nil, append_assoc, inl, inr, ⊎_elim, zero-add, add-zero, add-suc, suc-add, arith}
 use Rattle.std.proofs.Math.Decide.{ℕ_discrete}

@@ -1,11 +1,7 @@
--- What the definitions of specs/Counted.antt come to: each with its last or its first number taken off, as a loop needs it, and what tests and
--- sums tell of single numbers (lists are in specs/ListLaws.antt). Assumes nothing.
-use Rattle.std.specs.Prelude.{◌≡◌, refl, Bool, true, false, not, List, [], ◌∷◌, ◌++◌, ◌⊎◌, ℕ, zero, suc, ◌+◌, ◌-◌, ◌<◌, ◌≤◌}
-use Rattle.std.proofs.Common.{sym, ◌∙◌, append-nil, append_assoc, inl, inr, ⊎_elim, zero-add, add-zero, add-suc, suc-add, arith}
-use Rattle.std.proofs.Math.Decide.{ℕ_discrete}
-use Rattle.std.proofs.Math.Nat.{sub-zero}
-use Rattle.std.proofs.Math.Numerals.{add-one}
-use Rattle.std.proofs.lemmas.Bool.{not-true, not-false}
+-- What the definitions of specs/Counted.antt come to: each with its last or its first number taken off, as a loop needs it, and what tests and sums
+-- tell of single numbers (lists are in proofs/ListLaws.antt). What is said of it stands here, and why it holds in proofs/CountedLaws.antt. Assumes
+-- nothing.
+use Rattle.std.specs.Prelude.{ℕ, ◌<◌}
 
 -- ---- what the laws are said with
 -- some number k below n has P k

@@ -10,8 +10,6 @@ use Rattle.entry.specs.declared.Directory.{Directory}
 use Rattle.entry.specs.declared.Remote.{Remote}
 use Rattle.entry.specs.declared.Entry.{Entry}
 use Rattle.entry.specs.declared.Entry.TheVariants.{Absent, AtOwner, Elsewhere}
-use Rattle.entry.specs.AtNode.{sent, settled}
-use Rattle.entry.specs.Entry.{none}
 use Rattle.heap.specs.declared.Heap.{Heap}
 use Rattle.heap.specs.Heap.{root_at}
 use Rattle.table.specs.declared.Message.{Message}

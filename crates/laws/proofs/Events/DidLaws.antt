@@ -1,5 +1,5 @@
 -- Every accepted event did what Did.antt says of its kind: `did`. Assumes nothing.
-use Rattle.std.specs.Prelude.{◌≡◌, Bool, ℕ, ◌+◌, ◌<◌, ltb, eqb, if◌then◌else◌}
+use Rattle.std.specs.Prelude.{◌≡◌, Bool, ℕ, ◌+◌, ltb, eqb, if◌then◌else◌}
 use Rattle.std.proofs.Math.Path.{refl}
 use Rattle.std.proofs.Common.{sym, ap, subst, true≢false, arith}
 use Rattle.std.proofs.Math.Bool.{true, false, not}

@@ -1,6 +1,6 @@
 -- NEW never hands out a number that is still named (document 02 and PROOF-PLAN: a program's place is never used too soon): of an object that
 -- isn't live no root, no field of a live object, no entry and no message is left, on any node. Assumes nothing.
-use Rattle.std.specs.Prelude.{◌≡◌, ◌≢◌, false, not, ℕ, ◌+◌, ◌*◌, ◌<◌, eqb, ltb}
+use Rattle.std.specs.Prelude.{◌≡◌, false, not, ℕ, ◌+◌, ◌*◌, ◌<◌, eqb, ltb}
 use Rattle.std.proofs.Math.Path.{refl, ap}
 use Rattle.std.proofs.Common.{sym, ◌∙◌, true≢false}
 use Rattle.std.proofs.Math.Bool.{true}

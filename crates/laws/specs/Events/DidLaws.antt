@@ -1,10 +1,6 @@
--- Every accepted event did what Did.antt says of its kind: `did`. Assumes nothing.
-use Rattle.std.specs.Prelude.{◌≡◌, Bool, ℕ, ◌+◌, ◌<◌, ltb, eqb}
-use Rattle.std.proofs.Math.Path.{refl}
-use Rattle.std.proofs.Common.{sym, ap, subst, true≢false, arith}
-use Rattle.std.proofs.Math.Bool.{true, false, not}
-use Rattle.std.proofs.lemmas.Bool.{false≢true}
-use borrow.Author.Tests.{ltb-true, eqb-true, eqb-false, not-false}
+-- Every accepted event did what Did.antt says of its kind: `did`. What is said of it stands here, and why it holds in proofs/Events/DidLaws.antt.
+-- Assumes nothing.
+use Rattle.std.specs.Prelude.{◌<◌}
 use Rattle.step.specs.declared.Event.{Event}
 use Rattle.step.specs.declared.Ranges.{Ranges}
 

@@ -1,11 +1,8 @@
--- NEW never hands out a number that is still named (document 02 and PROOF-PLAN: a program's place is never used too soon): of an object that
--- isn't live no root, no field of a live object, no entry and no message is left, on any node. Assumes nothing.
-use Rattle.std.specs.Prelude.{◌≡◌, ◌≢◌, false, not, ℕ, ◌+◌, ◌*◌, ◌<◌, eqb, ltb}
-use Rattle.std.proofs.Math.Path.{refl, ap}
-use Rattle.std.proofs.Common.{sym, ◌∙◌, true≢false}
+-- NEW never hands out a number that is still named (document 02 and PROOF-PLAN: a program's place is never used too soon): of an object that isn't
+-- live no root, no field of a live object, no entry and no message is left, on any node. What is said of it stands here, and why it holds in
+-- proofs/Heap/FreshNumber.antt. Assumes nothing.
+use Rattle.std.specs.Prelude.{◌≡◌, ◌≢◌, false, ℕ, ◌<◌}
 use Rattle.std.proofs.Math.Bool.{true}
-use Rattle.std.proofs.Math.Decide.{ℕ_discrete}
-use borrow.Author.Tests.{eq-eqb, ltb-true, not-false, not-true}
 use Rattle.terms.specs.Limits.{NODES, OBJECTS, PLACES, FIELDS, ROOTS}
 use Rattle.entry.specs.declared.Entry.TheVariants.{Absent}
 use Rattle.heap.specs.Heap.{field_at, is_live, root_at}

@@ -1,9 +1,8 @@
--- The bridge from the counting to the heap (PROOF-PLAN, "The theorem that answers the insurer"): where the directory of an object is clear,
--- nobody else has it. Here it is stated, and turned round: whoever has it keeps the directory from being clear. The heap's laws take the
--- bridge as a hypothesis, so that they hold for any counting that gives it. Assumes nothing.
-use Rattle.std.specs.Prelude.{◌≡◌, refl, ◌≢◌, true, false, ℕ, ◌<◌}
-use Rattle.std.proofs.Common.{sym, ◌∙◌, true≢false}
-use Rattle.std.proofs.Math.Bool.{not-eq-not}
+-- The bridge from the counting to the heap (PROOF-PLAN, "The theorem that answers the insurer"): where the directory of an object is clear, nobody
+-- else has it. Here it is stated, and turned round: whoever has it keeps the directory from being clear. The heap's laws take the bridge as a
+-- hypothesis, so that they hold for any counting that gives it. What is said of it stands here, and why it holds in proofs/Heap/Nobody.antt.
+-- Assumes nothing.
+use Rattle.std.specs.Prelude.{◌≡◌, ◌≢◌, true, false, ℕ, ◌<◌}
 use Rattle.terms.specs.Limits.{NODES, PLACES, owner}
 use Rattle.entry.specs.Entry.{is_absent}
 use Rattle.table.specs.declared.Table.{Table}
