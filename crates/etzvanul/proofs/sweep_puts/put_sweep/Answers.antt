@@ -1,6 +1,6 @@
 use Rattle.std.proofs.Common.{◌∙◌, arith}
 use Rattle.terms.proofs.BufferLaws.{sets_front}
-use Rattle.splice.proofs.Onward.{from_later}
+use Rattle.splice.proofs.Resumed.{from_later}
 use Rattle.etzvanul.specs.SweepOnward.{first_on, object_on, directory_on, entry_on}
 use Rattle.etzvanul.specs.Spliced.{swept_image}
 use Rattle.etzvanul.proofs.Going.{ready, rest_room, ended}

@@ -1,5 +1,5 @@
 use Rattle.std.proofs.Common.{sym, ◌∙◌, arith}
-use Rattle.splice.proofs.Onward.{from_later}
+use Rattle.splice.proofs.Resumed.{from_later}
 use Rattle.etzvanul.specs.SweepOnward.{first_on, object_on, directory_on}
 use Rattle.etzvanul.specs.SweptLength.{unused_all}
 use Rattle.etzvanul.proofs.Sweeping.{object_next, objects_done, directory_next, directories_done}
