@@ -1,4 +1,4 @@
-//! Says where the verified archive is: below the repository's target folder, where `rt staticlib etzvanul` puts it, or in the folder that
+//! Says where the verified archive is: below the repository's target folder, where host/archive/make puts it, or in the folder that
 //! ETZVANUL_ARCHIVE_FOLDER names.
 
 use std::env;

@@ -1,11 +1,9 @@
 -- The copying under way: the changes left are in order, there is room for what they make, and with that the buffer becomes what it is to be.
 -- And the length under way: it and what is passed make up for the old image. Assumes nothing.
-use mathlib.Core.Path.{◌≡◌, refl, ap, ◌∙◌}
-use mathlib.Core.List.{List, [], ◌∷◌}
-use Prim.Native.Nat.{ℕ, ◌+◌, ◌-◌, ◌≤◌}
-use native.Mathlib.Omega.{arith}
-use lib.ListN.{length, take, drop, length-append, length-drop}
-use lib.Seq.{sets, take_all}
+use Rattle.std.specs.Prelude.{◌≡◌, refl, List, [], ◌∷◌, ℕ, ◌+◌, ◌-◌, ◌≤◌, length, take, drop}
+use Rattle.std.proofs.Common.{ap, ◌∙◌, arith, length-append, length-drop}
+use Rattle.std.proofs.lemmas.List.Edits.{sets}
+use Rattle.std.proofs.lemmas.List.{take_all}
 use Rattle.terms.proofs.BufferLaws.{stored_more}
 use Rattle.image.specs.declared.Held.TheVariants as h
 use Rattle.image.specs.Stored.{Stored}

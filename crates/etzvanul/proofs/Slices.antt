@@ -1,8 +1,5 @@
 -- An accepted image tells of the table that is read from it, and so does a slice of its bytes. Assumes nothing.
-use mathlib.Core.Path.{◌≡◌}
-use mathlib.Core.List.{List}
-use Prim.Native.Nat.{ℕ}
-use lib.ListN.{get_or}
+use Rattle.std.specs.Prelude.{◌≡◌, List, ℕ, get_or}
 use mir.Syntax.{w8}
 use mir.Val.{Fits}
 use Rattle.terms.specs.Numbers.{ACCEPTED}

@@ -1,6 +1,6 @@
-// The calls that the controller's host makes, in C: byte slices in, one number back, nothing kept between calls. What each call comes to stands
-// in specs/HostCall.antt; include/etzvanul.h tells a C programmer the same. No call makes a table of the image: it is asked, and changed, where
-// it lies.
+// The calls that the controller's host makes: byte slices in, one number back, nothing kept between calls. What each call comes to stands in
+// specs/HostCall.antt. No call makes a table of the image: it is asked, and changed, where it lies. crates/etzvanul_c exports the calls to C;
+// include/etzvanul.h tells a C programmer the same.
 #![tactic(auto)]
 
 mod amends; // amends.rt: what an event comes to on an accepted image, and the new image
@@ -39,8 +39,7 @@ pub(crate) fn number_of(value: u32, length: usize) -> u64
 }
 
 // One event on the field whose image this is: the new image goes to the front of out.
-#[unsafe(no_mangle)]
-pub extern "C" fn etzvanul_step(image: &[u8], event: &[u8], out: &mut [u8]) -> u64
+pub fn etzvanul_step(image: &[u8], event: &[u8], out: &mut [u8]) -> u64
     ensures number { result ≡ host_number image.now event.now out.old }
     ensures bytes { out.new ≡ host_bytes image.now event.now out.old }
 {
@@ -55,8 +54,7 @@ pub extern "C" fn etzvanul_step(image: &[u8], event: &[u8], out: &mut [u8]) -> u
 }
 
 // Where a host starts: the image of the fresh field.
-#[unsafe(no_mangle)]
-pub extern "C" fn etzvanul_fresh(out: &mut [u8]) -> u64
+pub fn etzvanul_fresh(out: &mut [u8]) -> u64
     ensures number { result ≡ start_number out.old }
     ensures bytes { out.new ≡ start_bytes out.old }
 {
@@ -68,16 +66,14 @@ pub extern "C" fn etzvanul_fresh(out: &mut [u8]) -> u64
 }
 
 // Whether an image is accepted.
-#[unsafe(no_mangle)]
-pub extern "C" fn etzvanul_check(image: &[u8]) -> u64
+pub fn etzvanul_check(image: &[u8]) -> u64
     ensures { result ≡ check_number image.now }
 {
     check(image) as u64
 }
 
 // How far the owner of an object is from a node.
-#[unsafe(no_mangle)]
-pub extern "C" fn etzvanul_depth(image: &[u8], node: u8, object: u8) -> u64
+pub fn etzvanul_depth(image: &[u8], node: u8, object: u8) -> u64
     ensures { result ≡ depth_call image.now node object }
 {
     let answer = check(image);

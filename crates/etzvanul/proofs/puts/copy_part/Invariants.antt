@@ -1,0 +1,14 @@
+-- The invariant: what is copied so far stands there.
+use Rattle.std.proofs.Common.{◌≡◌, ◌-◌, ◌≤◌, length, take, drop}
+use Rattle.std.proofs.lemmas.List.Edits.{sets}
+use Rattle.etzvanul.proofs.puts.copy_part.Given as goal
+
+abbrev pub invariant-loop-i : goal.invariant-loop-i
+invariant-loop-i l = record {
+  within : l.i ≤ l.n;
+  keeps_length : length l.out ≡ length l.fn.out;
+  stands : l.out ≡ sets l.fn.out l.to (take l.i (drop l.from l.l));
+}
+
+abbrev pub decreases-loop-i : goal.decreases-loop-i
+decreases-loop-i l = l.n - l.i
