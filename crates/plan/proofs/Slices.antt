@@ -1,10 +1,5 @@
 -- A slice of bytes holds bytes. Assumes nothing.
-use mathlib.Core.List.{List}
-use Prim.Native.Nat.{ℕ}
-use native.Mathlib.Omega.{arith}
-use lib.ListN.{get_or}
-use mir.Syntax.{w8}
-use mir.Val.{Fits}
+use Rattle.std.proofs.Common.{List, ℕ, get_or, Fits, w8, arith}
 use Rattle.image.specs.BytesLaws.{AreBytes}
 use Rattle.splice.proofs.Resumed.{are_bytes}
 

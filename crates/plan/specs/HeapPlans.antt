@@ -14,7 +14,6 @@ use Rattle.heap.specs.declared.Object.{Object}
 use Rattle.heap.specs.Heap.{born, field_at, free_own, is_live, is_none, object_at, root_at, with_field_in, with_root}
 use Rattle.heap.specs.Walk.{owned_by}
 use Rattle.image.specs.Find.{of_object}
-use Rattle.image.specs.Spots.{count, object, roots}
 use Rattle.splice.specs.Changed.{roots_with}
 use Rattle.splice.proofs.Events.{root_differs}
 use Rattle.splice.specs.Kinds.{object_with}

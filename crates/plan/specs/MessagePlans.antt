@@ -28,7 +28,7 @@ use Rattle.table.specs.Table.{empty_place, entry_at, is_empty, message_at}
 use Rattle.image.specs.declared.Held.{Held}
 use Rattle.image.specs.declared.Held.TheVariants as h
 use Rattle.image.specs.Find.{entry_records, held_records}
-use Rattle.image.specs.Spots.{count, message, roots}
+use Rattle.image.specs.Spots.{message}
 use Rattle.image.specs.Writer.{directory_record, remote_record, message_record}
 use Rattle.laws.proofs.Events.EntryFits.{sent_fits, received_fits, settled_fits}
 use Rattle.splice.specs.Changed.{entry_spot, entry_record, roots_with}

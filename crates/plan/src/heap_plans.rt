@@ -38,6 +38,7 @@ fn root_changed(found: Found, named: Roots, p: u8, r: u8, name: u8) -> Plan
 }
 
 // MOVE P r q
+#[tactic(auto, unfolding(crate::specs::Plan::root_plan))]
 pub(crate) fn move_plan(l: &[u8], p: u8, r: u8, q: u8) -> Plan
     ensures { result ≡ root_plan l.now p r (root_of l.now p q) }
 {
@@ -48,6 +49,7 @@ pub(crate) fn move_plan(l: &[u8], p: u8, r: u8, q: u8) -> Plan
 }
 
 // CLEAR P r
+#[tactic(auto, unfolding(crate::specs::Plan::root_plan))]
 pub(crate) fn clear_plan(l: &[u8], p: u8, r: u8) -> Plan
     ensures { result ≡ root_plan l.now p r NONE }
 {
@@ -58,6 +60,7 @@ pub(crate) fn clear_plan(l: &[u8], p: u8, r: u8) -> Plan
 }
 
 // NEW P r
+#[tactic(auto, unfolding(crate::specs::Plan::new_plan))]
 pub(crate) fn new_plan(l: &[u8], p: u8, r: u8) -> Plan
     requires { p < NODES }
     ensures { result ≡ new_plan l.now p r (OWNED * p + free_own_in l.now p) }
@@ -92,6 +95,7 @@ pub(crate) fn new_plan(l: &[u8], p: u8, r: u8) -> Plan
 }
 
 // LOAD P r q f
+#[tactic(auto, unfolding(crate::specs::Plan::load_plan, crate::specs::Plan::root_plan))]
 pub(crate) fn load_plan(l: &[u8], p: u8, r: u8, q: u8, f: u8) -> Plan
     ensures { result ≡ load_plan l.now p r (root_of l.now p q) f }
 {
@@ -115,6 +119,7 @@ pub(crate) fn load_plan(l: &[u8], p: u8, r: u8, q: u8, f: u8) -> Plan
 }
 
 // STORE P q f r
+#[tactic(auto, unfolding(crate::specs::Plan::store_plan))]
 pub(crate) fn store_plan(l: &[u8], p: u8, q: u8, f: u8, r: u8) -> Plan
     ensures { result ≡ store_plan l.now p (root_of l.now p q) f r }
 {

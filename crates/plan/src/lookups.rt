@@ -12,7 +12,6 @@ use reader::{look_from, place_of};
 
 // ---- what stands there
 
-#[tactic(auto, unfolding(image::specs::Find::found_from))]
 pub fn object_from(l: &[u8], from: usize, o: u8) -> Found
     ensures { result ≡ found_from from (spot_position (object o)) l.now }
 {
@@ -26,7 +25,6 @@ pub(crate) fn roots_from(l: &[u8], from: usize, p: u8) -> Found
 }
 
 // An entry at the owner is a directory.
-#[tactic(auto, unfolding(image::specs::Find::found_from))]
 pub fn entry_from(l: &[u8], from: usize, p: u8, o: u8) -> Found
     ensures { result ≡ found_from from (spot_position (entry_spot p o)) l.now }
 {
@@ -65,6 +63,7 @@ fn is_live(l: &[u8], o: u8) -> bool
 }
 
 // An object of p that isn't live.
+#[tactic(auto, unfolding(crate::specs::Plan::is_dead_own_in))]
 pub(crate) fn is_dead_own(l: &[u8], p: u8, o: u8) -> bool
     ensures { result ≡ is_dead_own_in l.now p o }
 {
@@ -75,6 +74,7 @@ pub(crate) fn is_dead_own(l: &[u8], p: u8, o: u8) -> bool
 }
 
 // The lowest object of p that isn't live, counted from 0 among its own; as many as it owns where all are live.
+#[tactic(auto, unfolding(crate::specs::Plan::free_own_in))]
 pub(crate) fn free_own(l: &[u8], p: u8) -> u8
     requires { p < NODES }
     ensures { result ≡ free_own_in l.now p }

@@ -33,6 +33,7 @@ fn empty_place(l: &[u8]) -> EmptyPlace
     EmptyPlace { s: s, spot: past }
 }
 
+#[tactic(auto, unfolding(crate::specs::Plan::send_plan))]
 pub(crate) fn send_plan(l: &[u8], p: u8, q: u8, o: u8) -> Plan
     ensures { result ≡ send_plan l.now p q o }
 {
@@ -108,6 +109,7 @@ fn receive_reference(l: &[u8], s: u8, r: u8, from: u8, to: u8, o: u8, place: Fou
     }
 }
 
+#[tactic(auto, unfolding(crate::specs::Plan::receive_plan))]
 pub(crate) fn receive_plan(l: &[u8], s: u8, r: u8) -> Plan
     ensures { result ≡ receive_plan l.now s r (message_of l.now s) }
 {
@@ -161,6 +163,7 @@ fn settle_decrement(
     }
 }
 
+#[tactic(auto, unfolding(crate::specs::Plan::settle_plan))]
 pub(crate) fn settle_plan(l: &[u8], s: u8) -> Plan
     ensures { result ≡ settle_plan l.now s (message_of l.now s) }
 {
@@ -229,6 +232,7 @@ fn drop_remote(l: &[u8], p: u8, o: u8, remote: Remote, found: Found) -> Plan
     }
 }
 
+#[tactic(auto, unfolding(crate::specs::Plan::drop_plan))]
 pub(crate) fn drop_plan(l: &[u8], p: u8, o: u8) -> Plan
     ensures { result ≡ drop_plan l.now p o (entry_of l.now p o) }
 {

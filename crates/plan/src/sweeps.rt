@@ -12,7 +12,6 @@ use step::{Outcome, is_reclaimed, is_whole, reclaimed};
 // ---- what the image tells
 
 // All objects and roots: in the image the objects come first, then the roots.
-#[tactic(auto, unfolding(crate::specs::Sweep::heap_in))]
 fn heap_in(image: &[u8]) -> Heap
     ensures { result ≡ heap_in image.now }
 {
@@ -40,7 +39,6 @@ fn heap_in(image: &[u8]) -> Heap
 }
 
 // For each object of p, whether its directory has RC above 0 or MsgCtr not 0.
-#[tactic(auto, unfolding(crate::specs::Sweep::counted_in))]
 fn counted_in(image: &[u8], p: u8) -> [bool; 8]
     requires { p < NODES }
     ensures { result ≡ counted_in image.now p }
@@ -61,7 +59,6 @@ fn counted_in(image: &[u8], p: u8) -> [bool; 8]
 }
 
 // For each object of another node, whether p has an entry for it with Presence true.
-#[tactic(auto, unfolding(crate::specs::Sweep::present_in))]
 fn present_in(image: &[u8], p: u8) -> Marks
     ensures { result.seen ≡ present_in image.now p }
 {
@@ -134,7 +131,7 @@ fn refused(number: u8) -> Sweep
 }
 
 // What isn't a node is refused.
-#[tactic(auto, unfolding(crate::specs::Sweep::sweep_of))]
+#[tactic(auto, unfolding(crate::specs::Sweep::sweep_of, crate::specs::Sweep::sweep_with))]
 pub fn sweep_of(image: &[u8], p: u8) -> Sweep
     ensures { result ≡ sweep_of image.now p }
 {
