@@ -24,7 +24,6 @@ const HALF: u32 = 2147483648;
 const ALL: u32 = 4294967295;
 
 // The entry is lent for the time of the call, and then read.
-#[tactic(auto, unfolding(lent::specs::Lent::lent))]
 fn lent_out(mut e: Entry, m: ReturnCount, n: Weight) -> EntryAct
     ensures { result ≡ lent e m n }
 {
