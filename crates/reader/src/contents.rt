@@ -3,7 +3,7 @@ ghost use Rattle.std.specs.Prelude.{◌≡◌, ◌+◌, ◌≤◌, length};
 ghost use Rattle.image.specs.Content.{live_object, roots_of_node, directory_entry, remote_entry, reference_message, decrement_message, fits_record};
 ghost use Rattle.image.specs.Front.{trails, cell_with_directory, cell_with_remote};
 ghost use Rattle.image.specs.Reader.{payload};
-ghost use Rattle.image.specs.Records.{HEAD as HEAD-BYTES, is_end, length_of};
+ghost use Rattle.image.specs.Records.{HEAD as HEAD_BYTES, is_end, length_of};
 ghost use Rattle.image.specs.declared.RecordKind.TheVariants.{Count, Live, NodeRoots, Reference, Decrement};
 ghost use Rattle.image.specs.declared.RecordKind.TheVariants.{Directory as DirectoryKind, Remote as RemoteKind};
 
@@ -17,7 +17,7 @@ use table::{Cell, Message, Place, Table};
 // ---- what stands in the records
 
 pub(crate) fn object_in(l: &[u8]) -> Object
-    requires { HEAD-BYTES + length_of Live ≤ length l.now }
+    requires { HEAD_BYTES + length_of Live ≤ length l.now }
     ensures { result ≡ live_object (payload Live l.now) }
 {
     let fields = [l[5], l[6], l[7], l[8]];
@@ -28,7 +28,7 @@ pub(crate) fn object_in(l: &[u8]) -> Object
 }
 
 pub(crate) fn roots_in(l: &[u8]) -> Roots
-    requires { HEAD-BYTES + length_of NodeRoots ≤ length l.now }
+    requires { HEAD_BYTES + length_of NodeRoots ≤ length l.now }
     ensures { result ≡ roots_of_node (payload NodeRoots l.now) }
 {
     let at = [l[5], l[6], l[7], l[8], l[9], l[10], l[11], l[12]];
@@ -36,7 +36,7 @@ pub(crate) fn roots_in(l: &[u8]) -> Roots
 }
 
 pub(crate) fn directory_in(l: &[u8]) -> Entry
-    requires { HEAD-BYTES + length_of DirectoryKind ≤ length l.now }
+    requires { HEAD_BYTES + length_of DirectoryKind ≤ length l.now }
     ensures { result ≡ directory_entry (payload DirectoryKind l.now) }
 {
     Entry::AtOwner(Directory {
@@ -46,7 +46,7 @@ pub(crate) fn directory_in(l: &[u8]) -> Entry
 }
 
 pub(crate) fn remote_in(l: &[u8]) -> Entry
-    requires { HEAD-BYTES + length_of RemoteKind ≤ length l.now }
+    requires { HEAD_BYTES + length_of RemoteKind ≤ length l.now }
     ensures { result ≡ remote_entry (payload RemoteKind l.now) }
 {
     Entry::Elsewhere(Remote {
@@ -59,7 +59,7 @@ pub(crate) fn remote_in(l: &[u8]) -> Entry
 }
 
 pub(crate) fn reference_in(l: &[u8]) -> Place
-    requires { HEAD-BYTES + length_of Reference ≤ length l.now }
+    requires { HEAD_BYTES + length_of Reference ≤ length l.now }
     ensures { result ≡ record { held = reference_message (payload Reference l.now) } }
 {
     let m = Message::Reference {
@@ -71,7 +71,7 @@ pub(crate) fn reference_in(l: &[u8]) -> Place
 }
 
 pub(crate) fn decrement_in(l: &[u8]) -> Place
-    requires { HEAD-BYTES + length_of Decrement ≤ length l.now }
+    requires { HEAD_BYTES + length_of Decrement ≤ length l.now }
     ensures { result ≡ record { held = decrement_message (payload Decrement l.now) } }
 {
     let m = Message::Decrement {
@@ -88,7 +88,7 @@ pub(crate) fn decrement_in(l: &[u8]) -> Place
 
 #[tactic(auto, unfolding(image::specs::Content::fits_record))]
 fn fits_live(l: &[u8]) -> bool
-    requires { HEAD-BYTES + length_of Live ≤ length l.now }
+    requires { HEAD_BYTES + length_of Live ≤ length l.now }
     ensures { result ≡ fits_record Live (payload Live l.now) }
 {
     if Table::OBJECTS <= l[4] {
@@ -100,7 +100,7 @@ fn fits_live(l: &[u8]) -> bool
 
 #[tactic(auto, unfolding(image::specs::Content::fits_record))]
 fn fits_roots(l: &[u8]) -> bool
-    requires { HEAD-BYTES + length_of NodeRoots ≤ length l.now }
+    requires { HEAD_BYTES + length_of NodeRoots ≤ length l.now }
     ensures { result ≡ fits_record NodeRoots (payload NodeRoots l.now) }
 {
     if Table::NODES <= l[4] {
@@ -112,7 +112,7 @@ fn fits_roots(l: &[u8]) -> bool
 
 #[tactic(auto, unfolding(image::specs::Content::fits_record))]
 fn fits_directory(l: &[u8]) -> bool
-    requires { HEAD-BYTES + length_of DirectoryKind ≤ length l.now }
+    requires { HEAD_BYTES + length_of DirectoryKind ≤ length l.now }
     ensures { result ≡ fits_record DirectoryKind (payload DirectoryKind l.now) }
 {
     let o = l[4];
@@ -125,7 +125,7 @@ fn fits_directory(l: &[u8]) -> bool
 
 #[tactic(auto, unfolding(image::specs::Content::fits_record))]
 fn fits_remote(l: &[u8]) -> bool
-    requires { HEAD-BYTES + length_of RemoteKind ≤ length l.now }
+    requires { HEAD_BYTES + length_of RemoteKind ≤ length l.now }
     ensures { result ≡ fits_record RemoteKind (payload RemoteKind l.now) }
 {
     let p = l[4];
@@ -145,7 +145,7 @@ fn fits_remote(l: &[u8]) -> bool
 
 #[tactic(auto, unfolding(image::specs::Content::fits_record))]
 fn fits_reference(l: &[u8]) -> bool
-    requires { HEAD-BYTES + length_of Reference ≤ length l.now }
+    requires { HEAD_BYTES + length_of Reference ≤ length l.now }
     ensures { result ≡ fits_record Reference (payload Reference l.now) }
 {
     if Table::PLACES <= l[4] {
@@ -158,7 +158,7 @@ fn fits_reference(l: &[u8]) -> bool
 
 #[tactic(auto, unfolding(image::specs::Content::fits_record))]
 fn fits_decrement(l: &[u8]) -> bool
-    requires { HEAD-BYTES + length_of Decrement ≤ length l.now }
+    requires { HEAD_BYTES + length_of Decrement ≤ length l.now }
     ensures { result ≡ fits_record Decrement (payload Decrement l.now) }
 {
     if Table::PLACES <= l[4] {
@@ -171,7 +171,7 @@ fn fits_decrement(l: &[u8]) -> bool
 
 #[tactic(auto, unfolding(image::specs::Content::fits_record))]
 fn fits_count(l: &[u8]) -> bool
-    requires { HEAD-BYTES + length_of Count ≤ length l.now }
+    requires { HEAD_BYTES + length_of Count ≤ length l.now }
     ensures { result ≡ fits_record Count (payload Count l.now) }
 {
     number_at(l, 4) <= Table::EVENTS
@@ -179,7 +179,7 @@ fn fits_count(l: &[u8]) -> bool
 
 #[tactic(auto, unfolding(image::specs::Content::fits_record))]
 pub(crate) fn fits_record(kind: RecordKind, l: &[u8]) -> bool
-    requires { HEAD-BYTES + length_of kind ≤ length l.now }
+    requires { HEAD_BYTES + length_of kind ≤ length l.now }
     ensures { result ≡ fits_record kind (payload kind l.now) }
 {
     match kind {
@@ -224,7 +224,7 @@ pub(crate) fn trails(kind: RecordKind, l: &[u8]) -> bool
 // ---- an object's cell with the entry of a record
 
 pub(crate) fn with_directory(cell: Cell, l: &[u8]) -> Cell
-    requires { HEAD-BYTES + length_of DirectoryKind ≤ length l.now }
+    requires { HEAD_BYTES + length_of DirectoryKind ≤ length l.now }
     ensures { result ≡ cell_with_directory cell (payload DirectoryKind l.now) }
 {
     let e = directory_in(l);
@@ -232,7 +232,7 @@ pub(crate) fn with_directory(cell: Cell, l: &[u8]) -> Cell
 }
 
 pub(crate) fn with_remote(cell: Cell, l: &[u8]) -> Cell
-    requires { HEAD-BYTES + length_of RemoteKind ≤ length l.now }
+    requires { HEAD_BYTES + length_of RemoteKind ≤ length l.now }
     ensures { result ≡ cell_with_remote cell (payload RemoteKind l.now) }
 {
     let e = remote_in(l);

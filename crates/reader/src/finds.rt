@@ -4,7 +4,7 @@ ghost use Rattle.std.specs.Prelude.{◌≡◌, [], ◌∷◌, ◌+◌, ◌≤◌
 ghost use Rattle.image.specs.Find.{kind_of_low, offset, front_at, held_in, held_of, found_from};
 ghost use Rattle.image.specs.Order.{position_of};
 ghost use Rattle.image.specs.Reader.{payload};
-ghost use Rattle.image.specs.Records.{HEAD as HEAD-BYTES, length_of};
+ghost use Rattle.image.specs.Records.{HEAD as HEAD_BYTES, length_of};
 
 use crate::contents::{decrement_in, directory_in, object_in, reference_in, remote_in, roots_in};
 use crate::frames::{HEAD, frame_of, length_of};
@@ -69,7 +69,7 @@ fn find_from(bytes: &[u8], from: usize, position: u32) -> usize
 
 // What a record tells.
 fn held_in(kind: RecordKind, l: &[u8]) -> Held
-    requires { HEAD-BYTES + length_of kind ≤ length l.now }
+    requires { HEAD_BYTES + length_of kind ≤ length l.now }
     ensures { result ≡ held_in kind (payload kind l.now) }
 {
     match kind {

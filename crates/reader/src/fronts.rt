@@ -1,7 +1,7 @@
 // The record at the front of the bytes: its frame, its turn, its content, in this order.
 ghost use Rattle.std.specs.Prelude.{◌≡◌, ◌+◌, ◌≤◌, length};
 ghost use Rattle.image.specs.Front.{no_front, whole_of, front_of};
-ghost use Rattle.image.specs.Records.{HEAD as HEAD-BYTES, length_of};
+ghost use Rattle.image.specs.Records.{HEAD as HEAD_BYTES, length_of};
 
 use crate::contents::{fits_record, trails};
 use crate::frames::{HEAD, frame_of, length_of};
@@ -32,7 +32,7 @@ fn no_front(number: u8) -> Front
 // A record whose frame is in order: its turn, its numbers, and bytes after the end.
 #[tactic(auto, unfolding(image::specs::Front::whole_of))]
 fn whole_of(turn: Turn, kind: RecordKind, l: &[u8]) -> Front
-    requires { HEAD-BYTES + length_of kind ≤ length l.now }
+    requires { HEAD_BYTES + length_of kind ≤ length l.now }
     ensures { result ≡ whole_of turn kind l.now }
 {
     let spot = spot_of(kind, l);

@@ -7,7 +7,7 @@ mod numbers;
 ghost use Rattle.std.specs.Prelude.{◌≡◌, ◌+◌, ◌<◌, ◌≤◌, length};
 ghost use Rattle.std.proofs.lemmas.List.Edits.{sets};
 ghost use Rattle.terms.specs.Bytes.{over};
-ghost use Rattle.step.specs.EventRecord.{RECORD as RECORD-BYTES};
+ghost use Rattle.step.specs.EventRecord.{RECORD as RECORD_BYTES};
 ghost use Rattle.scenario.specs.Text.{is_bad, events_in, LineEnds, Checks};
 ghost use Rattle.scenario.specs.Records.{record_of, records_in, text_records, written_of, buffer_of};
 
@@ -118,7 +118,7 @@ fn check(text: &[u8]) -> Checked
 // The record of e at `to`.
 #[tactic(auto, unfolding(crate::specs::Records::record_of))]
 fn put(out: &mut [u8], to: usize, e: Event)
-    requires { to + RECORD-BYTES ≤ length out.old }
+    requires { to + RECORD_BYTES ≤ length out.old }
     ensures { out.new ≡ sets out.old to (record_of e) }
 {
     let kind = e.kind;

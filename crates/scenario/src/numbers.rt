@@ -1,6 +1,6 @@
 // The small readers of a line: blanks, its end, and a decimal number. Each looks at the bytes of l from `at` on; past the end there are none.
 ghost use Rattle.std.specs.Prelude.{◌≡◌, ◌≤◌, drop};
-ghost use Rattle.scenario.specs.Line.{is_blank as isBlankOf, is_digit as isDigitOf, digits as digitsOf, ends as endsOf};
+ghost use Rattle.scenario.specs.Line.{is_blank as is_blank_of, is_digit as is_digit_of, digits as digits_of, ends as ends_of};
 ghost use Rattle.scenario.specs.Line.{skipped, starts_number, number_in};
 ghost use Rattle.scenario.specs.Number.{meant, value_of};
 
@@ -22,7 +22,7 @@ const ZERO: u8 = 48;
 const NINE: u8 = 57;
 
 fn is_blank(b: u8) -> bool
-    ensures { result ≡ isBlankOf b }
+    ensures { result ≡ is_blank_of b }
 {
     if b == SPACE {
         return true;
@@ -31,7 +31,7 @@ fn is_blank(b: u8) -> bool
 }
 
 fn is_digit(b: u8) -> bool
-    ensures { result ≡ isDigitOf b }
+    ensures { result ≡ is_digit_of b }
 {
     if b < ZERO {
         return false;
@@ -57,7 +57,7 @@ fn skip(l: &[u8], at: usize) -> usize
 
 // Nothing but blanks, and perhaps a comment.
 pub(crate) fn ends(l: &[u8], at: usize) -> bool
-    ensures { result ≡ endsOf (drop at l.now) }
+    ensures { result ≡ ends_of (drop at l.now) }
 {
     let i = skip(l, at);
     if l.len() <= i {
@@ -79,7 +79,7 @@ fn starts_number(l: &[u8], at: usize) -> bool
 
 // The digits at `at`, as a number up to the limit.
 fn digits(l: &[u8], at: usize, limit: u16) -> Read
-    ensures { (meant l.now result ≡ digitsOf limit 0 (drop at l.now)) × (value_of result ≤ limit) }
+    ensures { (meant l.now result ≡ digits_of limit 0 (drop at l.now)) × (value_of result ≤ limit) }
 {
     let most = limit as u32;
     let mut n: u32 = 0;

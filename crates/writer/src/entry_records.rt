@@ -2,7 +2,7 @@
 ghost use Rattle.std.specs.Prelude.{◌≡◌, ◌+◌, ◌≤◌};
 ghost use Rattle.terms.specs.Counted.{one};
 ghost use Rattle.entry.specs.declared.Entry.TheVariants.{AtOwner, Elsewhere};
-ghost use Rattle.image.specs.Stored.{FULL as ROOM-FOR-ALL, DIRECTORY_BYTES, REMOTE_BYTES, CELLS_BYTES, Put, cells_records};
+ghost use Rattle.image.specs.Stored.{FULL as ROOM_FOR_ALL, DIRECTORY_BYTES, REMOTE_BYTES, CELLS_BYTES, Put, cells_records};
 ghost use Rattle.image.specs.Writer.{directory_record, remote_record};
 
 use crate::stores::{FULL, store_byte, store_head, store_number, store_returns};
@@ -20,7 +20,7 @@ pub(crate) const REMOTE_PAYLOAD: u8 = 16;
 
 // The owner's entry.
 fn put_owners(out: &mut [u8; FULL], at: usize, o: u8, d: Directory) -> usize
-    requires { at + DIRECTORY_BYTES ≤ ROOM-FOR-ALL }
+    requires { at + DIRECTORY_BYTES ≤ ROOM_FOR_ALL }
     ensures { Put DIRECTORY_BYTES (directory_record o (AtOwner d)) out.old at out.new result }
 {
     let rc = d.rc;
@@ -40,7 +40,7 @@ pub(crate) fn one_if(there: bool) -> u8
 
 // Any other node's entry.
 fn put_elsewhere(out: &mut [u8; FULL], at: usize, p: u8, o: u8, e: Remote) -> usize
-    requires { at + REMOTE_BYTES ≤ ROOM-FOR-ALL }
+    requires { at + REMOTE_BYTES ≤ ROOM_FOR_ALL }
     ensures { Put REMOTE_BYTES (remote_record p o (Elsewhere e)) out.old at out.new result }
 {
     let rc = e.rc;
@@ -59,7 +59,7 @@ fn put_elsewhere(out: &mut [u8; FULL], at: usize, p: u8, o: u8, e: Remote) -> us
 
 // What stands at an object's owner, if it is a directory.
 fn put_directory(out: &mut [u8; FULL], at: usize, o: u8, e: Entry) -> usize
-    requires { at + DIRECTORY_BYTES ≤ ROOM-FOR-ALL }
+    requires { at + DIRECTORY_BYTES ≤ ROOM_FOR_ALL }
     ensures { Put DIRECTORY_BYTES (directory_record o e) out.old at out.new result }
 {
     match e {
@@ -71,7 +71,7 @@ fn put_directory(out: &mut [u8; FULL], at: usize, o: u8, e: Entry) -> usize
 
 // What stands at a node for an object, if it isn't a directory.
 fn put_remote(out: &mut [u8; FULL], at: usize, p: u8, o: u8, e: Entry) -> usize
-    requires { at + REMOTE_BYTES ≤ ROOM-FOR-ALL }
+    requires { at + REMOTE_BYTES ≤ ROOM_FOR_ALL }
     ensures { Put REMOTE_BYTES (remote_record p o e) out.old at out.new result }
 {
     match e {
@@ -84,7 +84,7 @@ fn put_remote(out: &mut [u8; FULL], at: usize, p: u8, o: u8, e: Entry) -> usize
 // The directories by object, then the other entries by node and object. The node is the outer loop of both, so that a compiler may take it for a
 // constant, and reads a slot without a copy of its cell.
 pub(crate) fn put_cells(out: &mut [u8; FULL], from: usize, cells: [Cell; 64]) -> usize
-    requires { from + CELLS_BYTES ≤ ROOM-FOR-ALL }
+    requires { from + CELLS_BYTES ≤ ROOM_FOR_ALL }
     ensures { Put CELLS_BYTES (cells_records cells) out.old from out.new result }
 {
     let mut at = from;

@@ -1,6 +1,6 @@
 // The records of what the controllers hold: live objects with their fields, and roots.
 ghost use Rattle.std.specs.Prelude.{◌+◌, ◌≤◌};
-ghost use Rattle.image.specs.Stored.{FULL as ROOM-FOR-ALL, OBJECT_BYTES, ROOTS_BYTES, HEAP_BYTES, Put, live_record, node_record, heap_records};
+ghost use Rattle.image.specs.Stored.{FULL as ROOM_FOR_ALL, OBJECT_BYTES, ROOTS_BYTES, HEAP_BYTES, Put, live_record, node_record, heap_records};
 
 use crate::stores::{FULL, store_byte, store_four, store_head};
 use heap::{Heap, Object, Roots};
@@ -16,7 +16,7 @@ pub(crate) const ROOTS_PAYLOAD: u8 = 9;
 
 // An object, if it is live.
 fn put_object(out: &mut [u8; FULL], at: usize, o: u8, x: Object) -> usize
-    requires { at + OBJECT_BYTES ≤ ROOM-FOR-ALL }
+    requires { at + OBJECT_BYTES ≤ ROOM_FOR_ALL }
     ensures { Put OBJECT_BYTES (live_record o x) out.old at out.new result }
 {
     if !x.live {
@@ -29,7 +29,7 @@ fn put_object(out: &mut [u8; FULL], at: usize, o: u8, x: Object) -> usize
 
 // The eight roots of a node.
 fn put_roots(out: &mut [u8; FULL], at: usize, p: u8, x: Roots) -> usize
-    requires { at + ROOTS_BYTES ≤ ROOM-FOR-ALL }
+    requires { at + ROOTS_BYTES ≤ ROOM_FOR_ALL }
     ensures { Put ROOTS_BYTES (node_record p x) out.old at out.new result }
 {
     let a = store_head(out, at, ROOTS_PAYLOAD, ROOTS);
@@ -40,7 +40,7 @@ fn put_roots(out: &mut [u8; FULL], at: usize, p: u8, x: Roots) -> usize
 
 // The live objects, then the roots of every node.
 pub(crate) fn put_heap(out: &mut [u8; FULL], from: usize, h: Heap) -> usize
-    requires { from + HEAP_BYTES ≤ ROOM-FOR-ALL }
+    requires { from + HEAP_BYTES ≤ ROOM_FOR_ALL }
     ensures { Put HEAP_BYTES (heap_records h) out.old from out.new result }
 {
     let mut at = from;

@@ -1,7 +1,7 @@
 // The records of the messages in the air.
 ghost use Rattle.std.specs.Prelude.{◌+◌, ◌≤◌};
 ghost use Rattle.table.specs.declared.Message.TheVariants.{Reference, Decrement};
-ghost use Rattle.image.specs.Stored.{FULL as ROOM-FOR-ALL, MESSAGE_BYTES, AIR_BYTES, Put, air_records};
+ghost use Rattle.image.specs.Stored.{FULL as ROOM_FOR_ALL, MESSAGE_BYTES, AIR_BYTES, Put, air_records};
 ghost use Rattle.image.specs.Writer.{message_record};
 
 use crate::stores::{FULL, store_four, store_head, store_number, store_returns};
@@ -19,7 +19,7 @@ pub(crate) const DECREMENT_PAYLOAD: u8 = 12;
 
 // A reference in the air.
 fn put_reference(out: &mut [u8; FULL], at: usize, s: u8, from: u8, to: u8, o: u8) -> usize
-    requires { at + MESSAGE_BYTES ≤ ROOM-FOR-ALL }
+    requires { at + MESSAGE_BYTES ≤ ROOM_FOR_ALL }
     ensures { Put MESSAGE_BYTES (message_record s (Reference from to o)) out.old at out.new result }
 {
     let a = store_head(out, at, REFERENCE_PAYLOAD, REFERENCE);
@@ -37,7 +37,7 @@ fn put_decrement(
     m: ReturnCount,
     n: Weight,
 ) -> usize
-    requires { at + MESSAGE_BYTES ≤ ROOM-FOR-ALL }
+    requires { at + MESSAGE_BYTES ≤ ROOM_FOR_ALL }
     ensures { Put MESSAGE_BYTES (message_record s (Decrement from to o m n)) out.old at out.new result }
 {
     let a = store_head(out, at, DECREMENT_PAYLOAD, DECREMENT);
@@ -48,7 +48,7 @@ fn put_decrement(
 
 // What a place holds, if anything.
 fn put_message(out: &mut [u8; FULL], at: usize, s: u8, m: Message) -> usize
-    requires { at + MESSAGE_BYTES ≤ ROOM-FOR-ALL }
+    requires { at + MESSAGE_BYTES ≤ ROOM_FOR_ALL }
     ensures { Put MESSAGE_BYTES (message_record s m) out.old at out.new result }
 {
     match m {
@@ -66,7 +66,7 @@ fn put_message(out: &mut [u8; FULL], at: usize, s: u8, m: Message) -> usize
 
 // The messages by place.
 pub(crate) fn put_air(out: &mut [u8; FULL], from: usize, air: [Place; 64]) -> usize
-    requires { from + AIR_BYTES ≤ ROOM-FOR-ALL }
+    requires { from + AIR_BYTES ≤ ROOM_FOR_ALL }
     ensures { Put AIR_BYTES (air_records air) out.old from out.new result }
 {
     let mut at = from;

@@ -1,7 +1,7 @@
 // Bytes stored in the buffer where the image is made: each function hands back the place after them. Numbers are little-endian.
 ghost use Rattle.std.specs.Prelude.{◌≡◌, ◌+◌, ◌/◌, ◌%◌, ◌≤◌, length};
 ghost use Rattle.terms.specs.Bytes.{bytes_of, twos_complement, over};
-ghost use Rattle.image.specs.Stored.{FULL as ROOM-FOR-ALL, Stored, four};
+ghost use Rattle.image.specs.Stored.{FULL as ROOM_FOR_ALL, Stored, four};
 
 use entry::ReturnCount;
 
@@ -18,7 +18,7 @@ pub(crate) const KIND: u8 = 0x01;
 
 // One byte.
 pub(crate) fn store_byte(out: &mut [u8; FULL], at: usize, a: u8) -> usize
-    requires { at + 1 ≤ ROOM-FOR-ALL }
+    requires { at + 1 ≤ ROOM_FOR_ALL }
     ensures { Stored out.old at (bytes_of 1 a) out.new result }
 {
     out[at] = a;
@@ -27,7 +27,7 @@ pub(crate) fn store_byte(out: &mut [u8; FULL], at: usize, a: u8) -> usize
 
 // Four bytes.
 pub(crate) fn store_four(out: &mut [u8; FULL], at: usize, a: u8, b: u8, c: u8, d: u8) -> usize
-    requires { at + 4 ≤ ROOM-FOR-ALL }
+    requires { at + 4 ≤ ROOM_FOR_ALL }
     ensures { Stored out.old at (four a b c d) out.new result }
 {
     out[at] = a;
@@ -39,7 +39,7 @@ pub(crate) fn store_four(out: &mut [u8; FULL], at: usize, a: u8, b: u8, c: u8, d
 
 // The head of a record: the length of its payload, and its kind's number.
 pub(crate) fn store_head(out: &mut [u8; FULL], at: usize, payload: u8, kind: u8) -> usize
-    requires { at + 4 ≤ ROOM-FOR-ALL }
+    requires { at + 4 ≤ ROOM_FOR_ALL }
     ensures { Stored out.old at (four payload 0 kind 1) out.new result }
 {
     store_four(out, at, payload, 0, kind, KIND)
@@ -72,7 +72,7 @@ pub(crate) fn byte_3(x: u32) -> u8
 
 // A number of four bytes.
 pub(crate) fn store_number(out: &mut [u8; FULL], at: usize, x: u32) -> usize
-    requires { at + 4 ≤ ROOM-FOR-ALL }
+    requires { at + 4 ≤ ROOM_FOR_ALL }
     ensures { Stored out.old at (bytes_of 4 x) out.new result }
 {
     let a = byte_0(x);
@@ -96,7 +96,7 @@ pub(crate) fn bits_of(c: ReturnCount) -> u32
 
 // A return count.
 pub(crate) fn store_returns(out: &mut [u8; FULL], at: usize, c: ReturnCount) -> usize
-    requires { at + 4 ≤ ROOM-FOR-ALL }
+    requires { at + 4 ≤ ROOM_FOR_ALL }
     ensures { Stored out.old at (bytes_of 4 (twos_complement c.0)) out.new result }
 {
     let x = bits_of(c);

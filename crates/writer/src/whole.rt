@@ -1,6 +1,6 @@
 // The whole image, section by section, in a buffer with room for every record that a table could have.
 ghost use Rattle.std.specs.Prelude.{◌≡◌, length};
-ghost use Rattle.image.specs.Stored.{FULL as ROOM-FOR-ALL, Made};
+ghost use Rattle.image.specs.Stored.{FULL as ROOM_FOR_ALL, Made};
 
 use crate::entry_records::put_cells;
 use crate::heap_records::put_heap;
@@ -19,7 +19,7 @@ const END_PAYLOAD: u8 = 0;
 
 // One pass over the table; the length of its image comes back.
 pub(crate) fn make(out: &mut [u8; FULL], t: Table) -> usize
-    requires { length out.old ≡ ROOM-FOR-ALL }
+    requires { length out.old ≡ ROOM_FOR_ALL }
     ensures { Made t out.new result }
 {
     let count = t.count;

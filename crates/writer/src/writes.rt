@@ -1,6 +1,6 @@
 // A table written as its image, into a buffer that is lent.
 ghost use Rattle.std.specs.Prelude.{◌≡◌, ◌≤◌};
-ghost use Rattle.image.specs.Stored.{FULL as ROOM-FOR-ALL};
+ghost use Rattle.image.specs.Stored.{FULL as ROOM_FOR_ALL};
 ghost use Rattle.image.specs.Writer.{put_answer, put_length, put_bytes, write_answer, write_length, write_bytes};
 
 use crate::stores::{FULL, copy};
@@ -15,7 +15,7 @@ pub fn put_image(t: Table, out: &mut [u8]) -> Written
     ensures answer { result.answer ≡ put_answer t out.old }
     ensures length { result.length ≡ put_length t out.old }
     ensures bytes { out.new ≡ put_bytes t out.old }
-    ensures small { result.length ≤ ROOM-FOR-ALL }
+    ensures small { result.length ≤ ROOM_FOR_ALL }
 {
     let mut made = [0u8; FULL];
     let length = make(&mut made, t);
