@@ -2,7 +2,7 @@
 use Rattle.std.specs.Prelude.{◌≡◌, refl, true, false, List, [], ◌∷◌, ◌++◌, ℕ, ltb, ◌<◌, ◌≤◌, length, replicate}
 use Rattle.std.proofs.Common.{arith, lt-ltb, le-ltb}
 use Rattle.terms.specs.Bytes.{over}
-use Rattle.terms.specs.Counted.{gather_from, gather}
+use Rattle.terms.specs.Counted.{gather_from}
 use Rattle.terms.specs.Numbers.{ACCEPTED, ROOM}
 use Rattle.table.specs.Table.{fresh_table}
 use Rattle.image.specs.Writer.{records_of, bytes_of_all, image, put_answer, put_length, put_bytes}
