@@ -1,3 +1,4 @@
+pub mod Fresh
 pub mod Going
 pub mod Slices
 pub mod Sweeping

@@ -8,7 +8,7 @@ use Rattle.entry.specs.declared.Entry.TheVariants.{Absent}
 use Rattle.table.specs.declared.Cell.{Cell}
 use Rattle.table.specs.declared.Slot.{Slot}
 use Rattle.table.specs.declared.Table.{Table}
-use Rattle.table.specs.Depth.{depth_report, depth_number, depth}
+use Rattle.table.specs.Depth.{depth_report, depth_number}
 use Rattle.table.specs.Table.{cell_at}
 use Rattle.plan.specs.Plan.{entry_of}
 use Rattle.plan.specs.Told.{Told}

@@ -1,5 +1,5 @@
 -- The copying under way, after each change: which changes are left, and where it is in both images.
-use Rattle.std.proofs.Common.{ap, ◌∙◌, arith}
+use Rattle.std.proofs.Common.{◌∙◌, arith}
 use Rattle.terms.proofs.BufferLaws.{sets_front}
 use Rattle.etzvanul.specs.Orderly.{others}
 use Rattle.etzvanul.specs.Spliced.{new_image}
