@@ -1,2 +1,2 @@
-// How references are counted, one object at a time and over any rule set. All of it stands in specs/; there is no code.
+// How references are counted, one object at a time and over any rule set. The rules stand in specs/, the laws in proofs/; there is no code.
 #![tactic(auto)]

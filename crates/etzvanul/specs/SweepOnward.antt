@@ -8,7 +8,7 @@ use Rattle.std.proofs.lemmas.List.{get_or-replicate}
 use Rattle.terms.specs.Choose.{◌and◌}
 use Rattle.terms.proofs.ChooseLaws.{and_passes}
 use Rattle.terms.specs.Limits.{NODES, OBJECTS, OWNED, owner}
-use Rattle.terms.proofs.ListLaws.{get_d_list}
+use Rattle.terms.proofs.ListLaws.{get_or-list}
 use Rattle.terms.specs.Numbers.{TORN}
 use Rattle.entry.specs.Entry.{is_present}
 use Rattle.heap.specs.declared.Heap.{Heap}
@@ -51,7 +51,7 @@ module _ (x : Heap) (present marks : Marks) (p o : ℕ) (lt : o < OBJECTS) where
       go : (b : Bool) → is_marked (if b then refused_sweep TORN else swept_with x present marks p).unused o ≡ true
           → is_unused p (held_in x marks p) present o ≡ true
       go true marked = absurd (false≢true (sym (get_or-replicate OBJECTS o false false lt) ∙ marked))
-      go false marked = sym (get_d_list OBJECTS (is_unused p (held_in x marks p) present) o false lt) ∙ marked
+      go false marked = sym (get_or-list OBJECTS (is_unused p (held_in x marks p) present) o false lt) ∙ marked
 
   -- of no own object, whose test fails
   unused_other : is_marked (sweep_with x present marks p).unused o ≡ true → p ≡ owner o → ⊥
@@ -76,7 +76,7 @@ module _ (l : List ℕ) (are : AreBytes l) (t : Table) (told : Told l t) where
     counted = behind_count;
     others = λ o lt marked. unused_other _ _ _ p o lt (sym (same o) ∙ marked);
     present = λ o lt marked.
-        let here = sym (get_d_list OBJECTS (present_of l p) o false lt) ∙ unused-present _ (present_in l p) _ p o lt (sym (same o) ∙ marked) in
+        let here = sym (get_or-list OBJECTS (present_of l p) o false lt) ∙ unused-present _ (present_in l p) _ p o lt (sym (same o) ∙ marked) in
         ((and_passes (not (owned_by p o)) (is_present (entry_of l p o))).0 here).1;
   }
     where

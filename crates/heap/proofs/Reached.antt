@@ -15,7 +15,7 @@ use Rattle.terms.specs.Counted.{holds, how_many, list, list_from, gather_from}
 use Rattle.terms.specs.CountedLaws.{Some}
 use Rattle.terms.proofs.CountedLaws.{list_from_first, gather_from_first, how_many_le, how_many_lt, how_many_none}
 use Rattle.terms.specs.Limits.{OBJECTS, FIELDS}
-use Rattle.terms.proofs.ListLaws.{length_list, get_d_list, holds_first, holds-gather, holds-list}
+use Rattle.terms.proofs.ListLaws.{length_list, get_or-list, holds_first, holds-gather, holds-list}
 use Rattle.heap.specs.declared.Heap.{Heap}
 use Rattle.heap.specs.Heap.{field_at, fields_of}
 use Rattle.heap.specs.Walk.{Scope, everywhere, Within, Reached, started, through, Marks, unmarked, is_marked, mark, held_by, rounds, reached}
@@ -148,7 +148,7 @@ mark_gathered {i} {n} m f lt = rw (gather_from_first lt f) (mark_append everywhe
 -- to mark a list everywhere is to ask of each object whether the list holds it
 pub mark-everywhere : (xs : List ℕ) → mark everywhere unmarked xs ≡ list OBJECTS (holds xs)
 mark-everywhere xs = marks_same (mark everywhere unmarked xs) (list OBJECTS (holds xs)) (len ∙ sym (length_list 0 OBJECTS (holds xs))) (λ o lt.
-    let at = get_d_list OBJECTS (holds xs) o false (omega (arith, len)) in
+    let at = get_or-list OBJECTS (holds xs) o false (omega (arith, len)) in
     let none : is_marked unmarked o ≡ true → ⊥ = λ was. false≢true (sym (unmarked_none o) ∙ was) in (
       λ on. at ∙ ⊎_elim (λ was. absurd (none was)) (λ a. a.listed) (mark_only everywhere unmarked xs o on),
       λ on. mark_adds everywhere unmarked xs o (record { place = omega (arith, len); inside = refl; listed = sym at ∙ on }),

@@ -1,5 +1,5 @@
 -- What is reached from a set of starts through fields (document 01, COLLECT and law D): once as a definition that computes, once as a
--- relation that a reader checks at a glance. specs/Reached.antt proves that they agree. Definitions only; assumes nothing.
+-- relation that a reader checks at a glance. proofs/Reached.antt proves that they agree. Definitions only; assumes nothing.
 use Rattle.std.specs.Prelude.{◌≡◌, Bool, true, false, List, [], ◌∷◌, ℕ, zero, suc, ◌+◌, ◌*◌, ◌<◌, eqb, get_or, set, replicate, if◌then◌else◌}
 use Rattle.terms.specs.Counted.{gather, holds, how_many}
 use Rattle.terms.specs.Limits.{OBJECTS, OWNED, FIELDS, owner}

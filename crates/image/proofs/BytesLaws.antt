@@ -13,6 +13,7 @@ Fit (w ∷ ws) [] = ⊥
 Fit (w ∷ ws) (n ∷ ns) = (n < 256 ^ w) × Fit ws ns
 
 -- ---- a number
+
 pub length_bytes_of : (w n : ℕ) → length (bytes_of w n) ≡ w
 length_bytes_of zero n = refl
 length_bytes_of (suc w) n = ap suc (length_bytes_of w (n / 256))
@@ -39,6 +40,7 @@ bytes_of_number_of (b ∷ bs) are =
     rw (low, high, bytes_of_number_of bs are.1)
 
 -- ---- bytes of a list of bytes
+
 pub bytes_take : (n : ℕ) (l : List ℕ) → AreBytes l → AreBytes (take n l)
 bytes_take zero l are = tt
 bytes_take (suc n) [] are = tt
@@ -50,6 +52,7 @@ bytes_drop (suc n) [] are = tt
 bytes_drop (suc n) (b ∷ bs) are = bytes_drop n bs are.1
 
 -- ---- numbers one behind the other
+
 pub length-packed : (ws ns : List ℕ) → Fit ws ns → length (packed ws ns) ≡ total ws
 length-packed [] [] fit = refl
 length-packed [] (n ∷ ns) fit = refl
@@ -85,6 +88,7 @@ fit_unpacked (w ∷ ws) l are le = (
 )
 
 -- ---- return counts
+
 -- within 31 bits on either side of zero
 abbrev pub InSigned : ℤ → Type 0
 InSigned (pos n) = n < 2147483648

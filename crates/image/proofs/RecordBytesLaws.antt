@@ -15,6 +15,7 @@ use Rattle.image.specs.Stored.{OBJECT_BYTES, live_record}
 use Rattle.image.specs.Writer.{message_record, bytes_of_all}
 
 -- ---- a record has the bytes that its sort has, whatever its numbers are
+
 object_size : (o : ℕ) (x : Object) → (if x.live then OBJECT_BYTES else 0) ≡ length (bytes_of_all (live_record o x))
 unfolding bytes_of_all
 object_size o x = go x.live

@@ -19,6 +19,7 @@ use Rattle.laws.proofs.SoundKept.{always_sound, counted_of, sound_bridge, sound_
 use Rattle.laws.specs.Promises.{ClearMeansNobody, ReclaimsOnlyUnused, KeepsOnlyReached, NewNames}
 
 -- ---- the laws
+
 -- what every accepted event keeps
 pub sound : Always Sound
 sound = always_sound
@@ -48,18 +49,25 @@ pub law_e_holds : Always LawE
 law_e_holds es t run = let s = sound es t run in law_e t s.formed (record { shape = s.shape; counted = counted_of s })
 
 -- ---- no state that only a hand could make
+
 -- no event is ever answered TORN, nor SHAPE
 pub never_torn_nor_shape : Always NeverTorn
 never_torn_nor_shape es t run = let s = sound es t run in never_torn s (sound_counts s)
 
+-- ---- the insurer's question, in the words of specs/Promises.antt
+
+-- a directory that is clear means that no other controller has an entry, and that no message of the object is in the air
 pub clear_means_nobody : Always ClearMeansNobody
 clear_means_nobody es t run o number clear = let nobody = sound_bridge (sound es t run) o number clear in (nobody.entries, nobody.messages)
 
+-- an object that an accepted COLLECT reclaims was, before it, reached from no root and no reference in the air on any node
 pub reclaims_only_unused : Always ReclaimsOnlyUnused
 reclaims_only_unused es t run p o accepted = let s = sound es t run in collect_safe t p accepted s (sound_bridge s) o
 
+-- and an object of node p that it leaves live was reached on p, from p's roots or from a directory that is not clear
 pub keeps_only_reached : Always KeepsOnlyReached
 keeps_only_reached es t run p o accepted = collect_exact t p accepted o
 
+-- NEW never hands out a number that any root, field, entry or message still names
 pub new_names : Always NewNames
 new_names es t run p r accepted = let s = sound es t run in new_unnamed t p r accepted s (sound_bridge s)

@@ -1,6 +1,6 @@
 -- What holds of every sequence of accepted events, in reading order: what is said stands here, why it holds in proofs/.
 
--- all of it on one page
+-- the insurer's question; proofs/Promises.antt has all of it on one page
 pub mod Promises
 -- ---- what is said
 

@@ -1,6 +1,5 @@
--- What holds of every table that accepted events make of the fresh one (document 01, "Laws over all accepted sequences from the fresh state", and
--- demand 3): all of it on one page, each sentence with its proof. The definitions that it speaks of are those that the code is proved to meet. What
--- is said of it stands here, and why it holds in proofs/Promises.antt. Assumes nothing.
+-- The sentences that answer the insurer's question (document 01, demand 3), of a table that accepted events make of the fresh one.
+-- proofs/Promises.antt has them on one page with the laws, each with its proof. Definitions only; assumes nothing.
 use Rattle.std.specs.Prelude.{◌≡◌, true, false, ℕ, ◌<◌}
 use Rattle.terms.specs.Limits.{NODES, OBJECTS, PLACES, owner}
 use Rattle.terms.specs.Numbers.{ACCEPTED}
@@ -19,6 +18,7 @@ use Rattle.laws.specs.LawD.{Used}
 use Rattle.laws.specs.LawE.{Clear}
 
 -- ---- the insurer's question
+
 -- a directory that is clear means that no other controller has an entry, and that no message of the object is in the air
 abbrev pub ClearMeansNobody : Table → Type 0
 ClearMeansNobody t =

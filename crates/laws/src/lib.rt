@@ -1,2 +1,3 @@
-// The laws over all accepted sequences from the fresh state. All of it stands in specs/; there is no code.
+// The laws over all accepted sequences from the fresh state. What is said stands in specs/, why it holds in
+// proofs/; there is no code.
 #![tactic(auto)]

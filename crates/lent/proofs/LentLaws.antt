@@ -25,6 +25,7 @@ use Rattle.entry.specs.AtNode.{settled, refuses, torn, of_directory, of_remote}
 use Rattle.lent.specs.Lent.{fits_alone, fits_decrement, lent}
 
 -- ---- a test chooses between an act that is accepted and one that is refused
+
 module _ {A : Type 0} (act : A → EntryAct) (x y : A) (accepted : refuses (act x) ≡ false) (refused : refuses (act y) ≡ true) where
   -- it is refused where the test fails
   chosen_refuses : (test : Bool) → refuses (act (if test then x else y)) ≡ not test
@@ -37,6 +38,7 @@ module _ {A : Type 0} (act : A → EntryAct) (x y : A) (accepted : refuses (act 
   chosen_refused false told = refl
 
 -- ---- the two sorts of entry: the test, the act where it passes, and the act where it fails
+
 module _ (d : Directory) (m : ReturnCount) (n : Weight) where
   abbrev directory_test : Bool
   directory_test = leb n.0 d.rc and fits_returns m and stays fits_directory_returns d.msg_ctr (both d.msg_ctr m)
@@ -58,6 +60,7 @@ module _ (e : Remote) (m : ReturnCount) (n : Weight) where
   remote_torn = record { refusal = TORN; entry = e }
 
 -- ---- a refused settling leaves the entry as it was
+
 pub settled_refused : (e : Entry) (m : ReturnCount) (n : Weight) → refuses (settled m n e) ≡ true → settled m n e ≡ torn e
 unfolding settled directory_settled remote_settled
 settled_refused Absent m n told = refl
@@ -78,6 +81,7 @@ unfolding lent
 lent_in_range e m n fits decrement = listed e m n _ refl ∙ rw (fits, decrement) refl
 
 -- ---- where it is refused then: n above RC, or MsgCtr + m out of its range
+
 module _ (m : ReturnCount) (n : Weight) (decrement : fits_decrement m n ≡ true) where
   returns : fits_returns m ≡ true
   returns = ((and_passes _ (fits_weight n)).0 decrement).0

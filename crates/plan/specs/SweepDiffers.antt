@@ -10,7 +10,7 @@ use Rattle.terms.specs.Choose.{◌and◌}
 use Rattle.terms.proofs.ChooseLaws.{and_passes}
 use Rattle.terms.specs.Counted.{gather, holds}
 use Rattle.terms.specs.Limits.{NODES, OBJECTS, OWNED, owner}
-use Rattle.terms.proofs.ListLaws.{get_d_list, length_list}
+use Rattle.terms.proofs.ListLaws.{get_or-list, length_list}
 use Rattle.entry.specs.declared.Entry.{Entry}
 use Rattle.entry.specs.declared.Entry.TheVariants.{Absent}
 use Rattle.entry.specs.AtNode.{set_unused}
@@ -96,7 +96,7 @@ module _ (t : Table) (formed : Formed t) (p : ℕ) (lp : p < NODES) (marks : Mar
   -- objects
   object_after : (o : ℕ) → o < OBJECTS → object_at after.heap o ≡ (if goes o then idle else object_at t.heap o)
   unfolding heap_collected
-  object_after o lt = get_d_list OBJECTS (λ x. if goes x then idle else object_at t.heap x) o _ lt
+  object_after o lt = get_or-list OBJECTS (λ x. if goes x then idle else object_at t.heap x) o _ lt
 
   no_object_lem : (o : ℕ) → (o < OBJECTS → ⊥) → object_at after.heap o ≡ object_at t.heap o
   unfolding heap_collected
@@ -107,7 +107,7 @@ module _ (t : Table) (formed : Formed t) (p : ℕ) (lp : p < NODES) (marks : Mar
 
   -- cells
   cell_after : (o : ℕ) → o < OBJECTS → cell_at after o ≡ cell_collected t p marks held o (cell_at t o)
-  cell_after o lt = get_d_list OBJECTS (λ x. cell_collected t p marks held x (cell_at t x)) o _ lt
+  cell_after o lt = get_or-list OBJECTS (λ x. cell_collected t p marks held x (cell_at t x)) o _ lt
 
   no_cell : (o : ℕ) → (o < OBJECTS → ⊥) → cell_at after o ≡ cell_at t o
   no_cell o out =

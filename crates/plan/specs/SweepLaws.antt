@@ -9,7 +9,7 @@ use borrow.Author.Tests.{eq-eqb, eqb-true, lt-ltb}
 use Rattle.terms.specs.Choose.{◌and◌}
 use Rattle.terms.specs.Counted.{holds, how_many}
 use Rattle.terms.specs.Limits.{NODES, OBJECTS, OWNED, owner}
-use Rattle.terms.proofs.ListLaws.{get_d_list, length_list, list_is}
+use Rattle.terms.proofs.ListLaws.{get_or-list, length_list, list_is}
 use Rattle.terms.specs.Numbers.{ACCEPTED, TORN}
 use Rattle.entry.specs.declared.Entry.{Entry}
 use Rattle.entry.specs.declared.Entry.TheVariants.{Absent, AtOwner, Elsewhere}
@@ -63,14 +63,14 @@ module _ (l : List ℕ) (t : Table) (told : Told l t) where
     counted_told =
         list_is OWNED (λ k. not (is_clear (entry_at t p (OWNED * p + k)))) false (counted_in l p)
         (length_list 0 OWNED (λ k. not (is_clear (entry_of l p (OWNED * p + k)))))
-        (λ k lt. get_d_list OWNED (λ i. not (is_clear (entry_of l p (OWNED * p + i)))) k false lt
+        (λ k lt. get_or-list OWNED (λ i. not (is_clear (entry_of l p (OWNED * p + i)))) k false lt
         ∙ ap (λ (e : Entry). not (is_clear e)) (told.entries p (OWNED * p + k) node (omega arith)))
 
     pub present_told : present_in l p ≡ present_at t p
     unfolding present_in
     present_told =
         list_is OBJECTS (λ o. is_present (entry_at t p o)) false (present_in l p) (length_list 0 OBJECTS (present_of l p))
-        (λ o lt. get_d_list OBJECTS (present_of l p) o false lt
+        (λ o lt. get_or-list OBJECTS (present_of l p) o false lt
         ∙ ap (λ (e : Entry). not (owned_by p o) and is_present e) (told.entries p o node lt)
         ∙ only_others p o (entry_at t p o) (told.shape.entries p o node lt))
 
@@ -131,7 +131,7 @@ module _ (l : List ℕ) (t : Table) (told : Told l t) where
         -- the objects that go
         pub gone_told : is_marked (sweep_of l p).gone o ≡ is_reclaimed t p (kept t p) o
         gone_told =
-            ap (λ (s : Sweep). is_marked s.gone o) sweep_is ∙ get_d_list OBJECTS (is_reclaimed t p (kept t p)) o false lt
+            ap (λ (s : Sweep). is_marked s.gone o) sweep_is ∙ get_or-list OBJECTS (is_reclaimed t p (kept t p)) o false lt
 
         -- the objects of others whose entry is no longer used
         pub unused_told : is_marked (sweep_of l p).unused o
@@ -140,7 +140,7 @@ module _ (l : List ℕ) (t : Table) (told : Told l t) where
             let present = present_at t p in
             let held = held_in t.heap (kept t p) p in
             ap (λ (s : Sweep). is_marked s.unused o) sweep_is
-            ∙ get_d_list OBJECTS (is_unused p held present) o false lt
+            ∙ get_or-list OBJECTS (is_unused p held present) o false lt
             ∙ ap (λ (b : Bool). not (owned_by p o) and not b and is_marked present o) (marked_held held (held_at t p (kept t p)) o lt refl)
             ∙ ap (λ (b : Bool). not (owned_by p o) and not (holds (held_at t p (kept t p)) o) and b) (marked_present t p o lt)
 

@@ -20,6 +20,7 @@ use Rattle.splice.specs.Spread.{Within}
 use Rattle.splice.specs.Bytes.{patched_bytes}
 
 -- ---- records of kinds that there are, whose numbers fit
+
 abbrev pub Fits : List Record → Type 0
 Fits [] = Unit
 Fits (r ∷ rs) = (is_unknown r.kind ≡ false) × (Fit (widths_of r.kind) r.numbers × Fits rs)
@@ -40,6 +41,7 @@ from_fit n (r ∷ rs) fit = go (ltb (place_of r) n) (from_fit n rs fit.1.1)
     go false rest = fit
 
 -- ---- the scan
+
 -- it passes the records before the position
 passed_is : (i n : ℕ) (rs : List Record) → length rs ≤ i → n ≤ position 6 0 → Fits rs
     → passed_by i n (bytes_of_all rs) ≡ length (bytes_of_all (before n rs))
@@ -102,6 +104,7 @@ module _ (n : ℕ) (top : n ≤ position 6 0) (rs : List Record) (fit : Fits rs)
       ∙ ap (λ (k : ℕ). k + length (bytes_of_all (before m (from n rs)))) (sym offset_is)
 
 -- ---- the changes, made on bytes
+
 -- each spot of a field stands before the end
 pub spot_small : (s : Spot) → Within s → spot_position s < position 6 0
 spot_small count in' = omega arith

@@ -19,6 +19,7 @@ use Rattle.splice.specs.Patched.{Differs}
 use Rattle.splice.specs.Events.{count_to, object_to, roots_to, entry_to, message_to}
 
 -- ---- objects and roots
+
 module _ (t : Table) (formed : Formed t) (n : ℕ) where
   -- MOVE, CLEAR, LOAD: a root
   pub root_differs : (p r x : ℕ) → p < NODES
@@ -55,6 +56,7 @@ module _ (t : Table) (formed : Formed t) (n : ℕ) where
       rooted = roots_with t p r o
 
 -- ---- entries and messages
+
 module _ (t : Table) (formed : Formed t) (n p o : ℕ) (lp : p < NODES) (lo : o < OBJECTS) (e : Entry)
     (was : Proper p o (entry_at t p o)) (is : Proper p o e) where
   place : (spot_position (directory 0) ≤ spot_position (entry_spot p o)) × (spot_position (entry_spot p o) < spot_position (message 0))

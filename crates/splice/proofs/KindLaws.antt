@@ -35,6 +35,7 @@ use Rattle.splice.specs.Patched.{Differs}
 use Rattle.splice.specs.Kinds.{object_with}
 
 -- ---- no act makes a remote entry at the owner
+
 module _ (p o : ℕ) where
   nothing_proper : Proper p o Absent
   nothing_proper at = refl

@@ -7,6 +7,7 @@ use Rattle.image.specs.Records.{Record}
 use Rattle.splice.specs.Parts.{place_of, before, from, found}
 
 -- ---- the parts are the whole
+
 pub before-from : (n : ℕ) (rs : List Record) → before n rs ++ from n rs ≡ rs
 unfolding before from
 before-from n [] = refl
@@ -51,6 +52,7 @@ three_parts n rs =
     ∙ before-from n rs
 
 -- ---- where records stand
+
 -- each record has a position of which P holds
 abbrev pub Places : (ℕ → Type 0) → List Record → Type 0
 Places P [] = Unit
@@ -88,6 +90,7 @@ module _ (n : ℕ) where
   from_all (r ∷ rs) all = rw (le-ltb (place_of r) n all.0)
 
 -- ---- a position, and the records that stand before and after it
+
 module _ (n : ℕ) where
   -- records before it are passed
   pub found_passed : (rs more : List Record) → Places (λ q. q < n) rs → found n (rs ++ more) ≡ found n more
@@ -110,6 +113,7 @@ module _ (n : ℕ) where
         ∙ append-nil rs
 
 -- ---- rising records
+
 -- each record stands behind the one before it, the first from position n on
 abbrev pub Rising : ℕ → List Record → Type 0
 Rising n [] = Unit

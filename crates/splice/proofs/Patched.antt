@@ -26,6 +26,7 @@ patched [] rs = rs
 patched (c ∷ cs) rs = before (place_in c) rs ++ (c.records ++ patched cs (from (suc (place_in c)) rs))
 
 -- ---- two ways to fill the spots
+
 module _ (f g : Spot → List Record) where
   -- that agree from position n on
   joined_same : (n : ℕ) (l : List Spot) → rising n l ≡ true → ((x : Spot) → n ≤ spot_position x → g x ≡ f x) → joined g l ending ≡ joined f l ending
@@ -99,6 +100,7 @@ module _ (f g : Spot → List Record) (at : Placed f) (at' : Placed g) where
       ]
 
 -- ---- two tables
+
 module _ (t u : Table) where
   -- the tables agree from position m on and before position n
   between : (m n : ℕ) → ((x : Spot) → m ≤ spot_position x → spot_position x < n → record_at u x ≡ record_at t x)

@@ -40,6 +40,7 @@ joined f [] rest = rest
 joined f (s ∷ l) rest = f s ++ joined f l rest
 
 -- ---- the records of a table are those of its spots
+
 module _ (f : Spot → List Record) where
   joined_append : (l more : List Spot) (rest : List Record) → joined f (l ++ more) rest ≡ joined f l (joined f more rest)
   unfolding joined
@@ -89,6 +90,7 @@ records_joined t =
     ap (λ (rs : List Record). f count ++ rs) (six a b c d e ending ∙ sym objects)
 
 -- ---- rising spots
+
 -- each spot stands behind the one before it, the first from position n on, and all before the end
 unfoldable pub rising : ℕ → List Spot → Bool
 rising n [] = leb n (position 6 0)
@@ -174,6 +176,7 @@ in_spots (message s) in' =
     (Memᴰ.append_right (gather NODES (λ p. list OBJECTS (remote p))) (in_list 0 PLACES message s (omega arith) (omega arith))))))
 
 -- ---- the records of a table, by spot
+
 -- what stands at a spot of a table stands at the spot's position
 pub placed : (t : Table) (s : Spot) → Places (λ q. q ≡ spot_position s) (record_at t s)
 placed t count = (refl, tt)

@@ -14,6 +14,7 @@ use Rattle.splice.specs.Changed.{entry_spot, entry_record}
 use Rattle.splice.specs.Patched.{Change, change}
 
 -- ---- the changes
+
 abbrev pub count_to : ℕ → Change
 count_to n = change count (row Count (n ∷ []) ∷ [])
 

@@ -6,6 +6,7 @@ use Rattle.heap.specs.Heap.{is_live, object_at}
 use Rattle.table.specs.declared.Table.{Table}
 
 -- ---- the events
+
 -- the fields of an object with one of them changed
 abbrev pub object_with : Table → ℕ → ℕ → ℕ → Object
 object_with t o f x = record { live = is_live t.heap o; fields = set (object_at t.heap o).fields f x }

@@ -1,5 +1,5 @@
 -- A scan that goes on behind what one to an earlier position found: over any bytes, accepted or not, it finds what a scan from the start finds.
--- What is said of it stands here, and why it holds in proofs/Onward.antt. Assumes nothing.
+-- What is said of it stands here, and why it holds in proofs/Resumed.antt. Assumes nothing.
 use Rattle.std.specs.Prelude.{◌≡◌, ℕ, ◌≤◌}
 use mathlib.Core.List.{List}
 use Rattle.image.specs.Find.{found_from}

@@ -13,6 +13,7 @@ spots =
     ∷ (list OBJECTS object ++ (list NODES roots ++ (list OBJECTS directory ++ (gather NODES (λ p. list OBJECTS (remote p)) ++ list PLACES message))))
 
 -- ---- the spots of a field
+
 -- the spot lies within the limits of a field
 abbrev pub Within : Spot → Type 0
 Within count = Unit

@@ -10,7 +10,7 @@ use Rattle.std.proofs.lemmas.List.{set-get_or}
 use Rattle.terms.specs.Choose.{◌and◌, ◌or◌}
 use Rattle.terms.specs.Counted.{all, every, holds, list}
 use Rattle.terms.specs.Limits.{OBJECTS}
-use Rattle.terms.proofs.ListLaws.{get_d_list, length_list}
+use Rattle.terms.proofs.ListLaws.{get_or-list, length_list}
 use Rattle.entry.specs.declared.Entry.{Entry}
 use Rattle.entry.specs.declared.Entry.TheVariants.{Absent, AtOwner, Elsewhere}
 use Rattle.entry.specs.declared.Remote.{Remote}
@@ -26,11 +26,11 @@ use Rattle.step.specs.CollectParts.{changes, is_whole, may_hold_by, present_at, 
 
 -- marks of what a list holds say of each object whether it does
 pub marked_held : (m : List Bool) (held : List ℕ) (o : ℕ) → o < OBJECTS → m ≡ list OBJECTS (holds held) → is_marked m o ≡ holds held o
-marked_held m held o lt e = rw e (get_d_list OBJECTS (holds held) o false lt)
+marked_held m held o lt e = rw e (get_or-list OBJECTS (holds held) o false lt)
 
 -- marks of what is present say so of each object
 pub marked_present : (t : Table) (p o : ℕ) → o < OBJECTS → is_marked (present_at t p) o ≡ is_present (entry_at t p o)
-marked_present t p o lt = get_d_list OBJECTS (λ k. is_present (entry_at t p k)) o false lt
+marked_present t p o lt = get_or-list OBJECTS (λ k. is_present (entry_at t p k)) o false lt
 
 -- past the last object too, where there is no entry
 any_present : (t : Table) → length t.cells ≡ OBJECTS → (p o : ℕ) → is_marked (present_at t p) o ≡ is_present (entry_at t p o)

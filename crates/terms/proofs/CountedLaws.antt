@@ -15,6 +15,7 @@ pub last_or_below : {n k : ℕ} → k < suc n → (k ≡ n) ⊎ (k < n)
 last_or_below {n} {k} lt = elim (ℕ_discrete k n) [ yes e ↦ inl e | no ne ↦ inr (omega arith) ]
 
 -- ---- the last number taken off
+
 -- all pass exactly where all but the last do, and the last
 every_from_last : (k n : ℕ) (test : ℕ → Bool) → every_from k (suc n) test ≡ (every_from k n test and test (k + n))
 unfolding every_from
@@ -61,6 +62,7 @@ pub gather_last : {A : Type 0} (n : ℕ) (f : ℕ → List A) → gather (suc n)
 gather_last n f = gather_from_last 0 n f ∙ rw zero-add
 
 -- ---- the first number taken off
+
 -- the numbers from i on that are below n: i itself and the rest
 module _ {i n : ℕ} (lt : i < n) where
   rest : n - i ≡ suc (n - (i + 1))
@@ -122,6 +124,7 @@ unfolding gather_from
 gather_from_none le f = rw (none_from le)
 
 -- ---- a loop that tests the numbers below a limit
+
 -- none below i has failed: the whole test is that of the numbers from i on
 pub record Tested (whole : Bool) (limit : ℕ) (test : ℕ → Bool) (i : ℕ) : Type 0 where
   pub low : i ≤ limit
@@ -145,6 +148,7 @@ module _ {whole : Bool} {limit : ℕ} {test : ℕ → Bool} {i : ℕ} (t : Teste
   tested_all le = sym (t.rest ∙ every_from_none le test)
 
 -- ---- every
+
 -- where every number below n passes, each does
 pub every_at : (n : ℕ) (test : ℕ → Bool) → every n test ≡ true → (k : ℕ) → k < n → test k ≡ true
 every_at zero test e k lt = absurd (omega arith)
@@ -161,6 +165,7 @@ every_all (suc n) test h =
     every_last n test ∙ (and_passes (every n test) (test n)).1 (below, h n (omega arith))
 
 -- ---- lowest
+
 -- the test passes at the lowest of the n numbers from k on, where one of them passes
 lowest_from_at : (k n : ℕ) (test : ℕ → Bool) → lowest_from k n test < k + n → test (lowest_from k n test) ≡ true
 unfolding lowest_from
@@ -177,6 +182,7 @@ pub lowest_passes : (n : ℕ) (test : ℕ → Bool) → lowest n test < n → te
 lowest_passes n test lt = lowest_from_at 0 n test (omega arith)
 
 -- ---- sums
+
 -- where f is nowhere more than g, neither is its sum
 sum_le : (n : ℕ) (f g : ℕ → ℕ) → ((k : ℕ) → k < n → f k ≤ g k) → sum n f ≤ sum n g
 unfolding sum_from
@@ -205,6 +211,7 @@ sum_at zero f k lt = absurd (omega arith)
 sum_at (suc n) f k lt = rw (sum_last n f) (⊎_elim (λ q. rw q (omega arith)) (λ low. omega (arith, sum_at n f k low)) (last_or_below lt))
 
 -- ---- how many
+
 -- a test counts for no more than one that passes wherever it does
 one_le : (a b : Bool) → (a ≡ true → b ≡ true) → one a ≤ one b
 one_le true b h = rw (h refl) (omega arith)

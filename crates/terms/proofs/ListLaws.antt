@@ -21,13 +21,13 @@ length_list k zero f = refl
 length_list k (suc n) f = ap suc (length_list (suc k) n f)
 
 -- element k of the list is f k
-pub get_d_list : {A : Type 0} (n : ℕ) (f : ℕ → A) (k : ℕ) (d : A) → k < n → get_or (list n f) k d ≡ f k
-get_d_list zero f k d lt = absurd (omega arith)
-get_d_list (suc n) f k d lt =
+pub get_or-list : {A : Type 0} (n : ℕ) (f : ℕ → A) (k : ℕ) (d : A) → k < n → get_or (list n f) k d ≡ f k
+get_or-list zero f k d lt = absurd (omega arith)
+get_or-list (suc n) f k d lt =
     let len = length_list 0 n f in
     rw (list_last n f)
     (⊎_elim (λ q. rw q (get_or_at (list n f) (f n) [] d n len))
-    (λ low. get_or-append (list n f) (f n ∷ []) d k (omega arith) ∙ get_d_list n f k d low)
+    (λ low. get_or-append (list n f) (f n ∷ []) d k (omega arith) ∙ get_or-list n f k d low)
     (last_or_below lt))
 
 -- a list is the lists of one element each, gathered
@@ -39,7 +39,7 @@ list_gather k (suc n) f = rw (list_gather (suc k) n f)
 -- a list of n whose element k is f k, for each k
 pub list_is : {A : Type 0} (n : ℕ) (f : ℕ → A) (d : A) (xs : List A) → length xs ≡ n → ((k : ℕ) → k < n → get_or xs k d ≡ f k) → xs ≡ list n f
 list_is n f d xs len at =
-    ext_get_or d xs (list n f) (len ∙ sym (length_list 0 n f)) (λ k lt. at k (omega arith) ∙ sym (get_d_list n f k d (omega arith)))
+    ext_get_or d xs (list n f) (len ∙ sym (length_list 0 n f)) (λ k lt. at k (omega arith) ∙ sym (get_or-list n f k d (omega arith)))
 
 -- ---- a list that is filled in place
 

@@ -4,6 +4,7 @@
 use Rattle.std.specs.Prelude.{ℕ, ◌<◌}
 
 -- ---- what the laws are said with
+
 -- some number k below n has P k
 abbrev pub Some : ℕ → (ℕ → Type 0) → Type 0
 Some n P = (k : ℕ) × (k < n) × P k

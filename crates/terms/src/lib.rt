@@ -1,2 +1,2 @@
-// The terms in which every other crate speaks: limits, refusal numbers, choice and counting. All of it stands in specs/.
+// The terms in which every other crate speaks: limits, refusal numbers, choice and counting. The definitions stand in specs/, their laws in proofs/.
 #![tactic(auto)]

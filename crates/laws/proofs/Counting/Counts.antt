@@ -86,12 +86,12 @@ module _ (o : ℕ) where
       decrement_carried = rw mine
 
   -- a message of another object adds nothing
-  pub record Adds_nothing (x : Message) : Type 0 where
+  pub record AddsNothing (x : Message) : Type 0 where
     pub air : (p : ℕ) → air_under p o x ≡ 0
     pub carried : returns_in o x ≡ pos 0
     pub home : is_homeward o x ≡ false
 
-  pub foreign : (x : Message) → is_of o x ≡ false → Adds_nothing x
+  pub foreign : (x : Message) → is_of o x ≡ false → AddsNothing x
   foreign Empty e = record { air = λ p. refl; carried = refl; home = refl }
   foreign (Reference from to x) e = record { air = λ p. rw e; carried = refl; home = rw e }
   foreign (Decrement from to x m n) e = record { air = λ p. rw e; carried = rw e; home = refl }

@@ -1,5 +1,5 @@
 -- Laws A, B and C of one object hold in the fresh table and are kept by every change; from those of all objects, laws A and B of the table
--- follow as document 01 states them (law C is in specs/Counting/Chains.antt). Assumes nothing.
+-- follow as document 01 states them (law C is in proofs/Counting/Chains.antt). Assumes nothing.
 use Rattle.std.specs.Prelude.{◌≡◌, refl, true, ℕ, zero, suc, ◌+◌, ◌<◌, ℤ, pos, ◌+ℤ◌}
 use Rattle.std.proofs.Common.{sym, ap, ap₂, ◌∙◌, arith}
 use Rattle.terms.specs.Counted.{one}

@@ -35,6 +35,7 @@ use Rattle.step.specs.Store.{store}
 use Rattle.laws.specs.Events.Answered.{counting}
 
 -- ---- a list of refusals
+
 -- each has a number of its own, and not that of "accepted"
 abbrev pub numbered : List Refusal → Bool
 numbered [] = true
@@ -127,6 +128,7 @@ module _ (t : Table) (e : Event) (accepted : (step t e).answer ≡ ACCEPTED) whe
       counts x a = rw (eq-eqb x.answer ACCEPTED a)
 
 -- ---- a refused event
+
 -- a rule whose effect refuses leaves the table
 abbrev LeavesRefused : Table → Rule → Type 0
 LeavesRefused t rule = rule.effect.answer ≢ ACCEPTED → rule.effect.table ≡ t

@@ -40,6 +40,7 @@ use Rattle.laws.specs.Events.Did.{Did, DropFree, InReach}
 use Rattle.laws.specs.Events.DidLaws.{Below}
 
 -- ---- kinds and their numbers
+
 -- n is the number of the kind; of an unknown kind nothing is said
 abbrev pub Numbers : ℕ → Kind → Type 0
 Numbers n New = n ≡ NEW
@@ -83,6 +84,7 @@ below r e fits =
     }
 
 -- ---- by cases of the kind
+
 -- "or" fails where both fail
 or_fails : (a b : Bool) → (a or b) ≡ false → (a ≡ false) × (b ≡ false)
 or_fails true b e = absurd (true≢false e)

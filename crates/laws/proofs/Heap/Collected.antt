@@ -7,7 +7,7 @@ use Rattle.std.proofs.Math.Bool.{false}
 use Rattle.std.proofs.lemmas.Bool.{false≢true, eqb-false}
 use Rattle.terms.specs.Counted.{holds}
 use Rattle.terms.specs.Limits.{NODES, OBJECTS, owner}
-use Rattle.terms.proofs.ListLaws.{get_d_list, length_list}
+use Rattle.terms.proofs.ListLaws.{get_or-list, length_list}
 use Rattle.entry.specs.declared.Entry.{Entry}
 use Rattle.entry.specs.declared.Entry.TheVariants.{Absent, AtOwner, Elsewhere}
 use Rattle.entry.specs.AtNode.{set_unused}
@@ -41,7 +41,7 @@ module _ (t : Table) (p : ℕ) where
   -- a reclaimed object is idle, any other as it was
   pub object_after : (o : ℕ) → o < OBJECTS → object_at (collected t p).heap o ≡ (if is_gone t p o then idle else object_at t.heap o)
   unfolding heap_collected
-  object_after o lt = get_d_list OBJECTS (λ x. if is_gone t p x then idle else object_at t.heap x) o _ lt
+  object_after o lt = get_or-list OBJECTS (λ x. if is_gone t p x then idle else object_at t.heap x) o _ lt
 
   -- what is not reclaimed is as it was
   pub object_stays : (o : ℕ) → o < OBJECTS → is_gone t p o ≡ false → object_at (collected t p).heap o ≡ object_at t.heap o
@@ -83,7 +83,7 @@ module _ (t : Table) (p : ℕ) where
   module _ (o : ℕ) (lt : o < OBJECTS) where
     -- the cell of an object is what COLLECT makes of it
     cell_after : cell_at (collected t p) o ≡ cell_collected t p (kept t p) (held_at t p (kept t p)) o (cell_at t o)
-    cell_after = get_d_list OBJECTS (λ x. cell_collected t p (kept t p) (held_at t p (kept t p)) x (cell_at t x)) o _ lt
+    cell_after = get_or-list OBJECTS (λ x. cell_collected t p (kept t p) (held_at t p (kept t p)) x (cell_at t x)) o _ lt
 
     -- one of the three it is
     pub changed : Changed o (cell_at (collected t p) o)

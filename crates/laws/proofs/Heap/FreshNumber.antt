@@ -34,6 +34,7 @@ use Rattle.laws.specs.Sound.{Sound}
 use Rattle.laws.specs.Heap.FreshNumber.{Unnamed}
 
 -- ---- an object that isn't live
+
 module _ {t : Table} (shape : Shaped t) (held : WellHeld t) (o : ℕ) (lt : o < OBJECTS) (dead : is_live t.heap o ≡ false) where
   -- it has no directory, and at the owner no other entry stands
   pub dead_unlisted : entry_at t (owner o) o ≡ Absent
@@ -63,6 +64,7 @@ module _ {t : Table} (shape : Shaped t) (held : WellHeld t) (o : ℕ) (lt : o < 
       nobody = bridge o lt (ap is_clear dead_unlisted)
 
 -- ---- NEW
+
 -- the object that NEW takes isn't live
 pub chosen_dead : (t : Table) (p : ℕ) → free_own t.heap p < OWNED → is_live t.heap (chosen t p) ≡ false
 chosen_dead t p room = not-true (is_live t.heap (chosen t p)) (lowest_passes OWNED (λ k. not (is_live t.heap (OWNED * p + k))) room)

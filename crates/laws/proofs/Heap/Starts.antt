@@ -13,7 +13,7 @@ use Rattle.terms.proofs.ChooseLaws.{and_passes}
 use Rattle.terms.specs.Counted.{holds}
 use Rattle.terms.specs.CountedLaws.{Some}
 use Rattle.terms.specs.Limits.{OBJECTS, OWNED, ROOTS, owner}
-use Rattle.terms.proofs.ListLaws.{get_d_list, holds_either, holds_first, holds-gather}
+use Rattle.terms.proofs.ListLaws.{get_or-list, holds_either, holds_first, holds-gather}
 use Rattle.entry.specs.Entry.{is_clear}
 use Rattle.heap.specs.Heap.{is_live, root_at, roots_of}
 use Rattle.heap.proofs.Reached.{reached_is}
@@ -42,13 +42,13 @@ module _ (t : Table) (p o : ℕ) where
     λ e.
         let (k, lt, there) = gathered.0 e in
         let (test, same) = (one_if (get_or (counted t p) k false) (OWNED * p + k) o).0 there in
-        let unclear : not (is_clear (entry_at t p o)) ≡ true = rw same at (sym (get_d_list OWNED is_counted k false lt) ∙ test) in
+        let unclear : not (is_clear (entry_at t p o)) ≡ true = rw same at (sym (get_or-list OWNED is_counted k false lt) ∙ test) in
         record { own = omega arith; unclear = not-true (is_clear (entry_at t p o)) unclear },
     λ c.
         let place : OWNED * p + o % OWNED ≡ o = let own = c.own in omega arith in
         let small : o % OWNED < OWNED = omega arith in
         let test : is_counted (o % OWNED) ≡ true = rw place (rw c.unclear) in
-        gathered.1 (o % OWNED, small, (one_if _ (OWNED * p + o % OWNED) o).1 (get_d_list OWNED is_counted (o % OWNED) false small ∙ test, place)),
+        gathered.1 (o % OWNED, small, (one_if _ (OWNED * p + o % OWNED) o).1 (get_or-list OWNED is_counted (o % OWNED) false small ∙ test, place)),
   )
     where
       gathered : (holds (pointed p (counted t p)) o ≡ true)
@@ -66,6 +66,7 @@ module _ (t : Table) (p o : ℕ) where
       either = holds_either (roots_of t.heap p) (pointed p (counted t p)) o
 
 -- ---- what is kept, and what is reclaimed
+
 -- object o is reached by COLLECT at p: from p's roots and counted objects, through fields of objects of p only
 abbrev pub Kept : Table → ℕ → ℕ → Type 0
 Kept t p o = Reached t.heap (owned_by p) (starts t p) o

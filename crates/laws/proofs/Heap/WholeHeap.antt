@@ -70,7 +70,7 @@ module _ {t : Table} (shape : Shaped t) (held : WellHeld t) where
         let none = dead_unlisted shape held (chosen t p) (chosen_number t p room node) (chosen_dead t p room) in
         ap is_absent (rw (chosen_own t p room) at none)
 
-    -- what a root names that isn't empty (LOAD, STORE: that it is live says `root_live` of specs/Heap/HeldAfter.antt)
+    -- what a root names that isn't empty (LOAD, STORE: that it is live says `root_live` of proofs/Heap/HeldAfter.antt)
     module _ (r : ℕ) (root : r < ROOTS) (named : is_none (root_at t.heap p r) ≡ false) where
       -- SEND: it is no dead one of the node's own
       pub send_alive : is_dead_own t p (root_at t.heap p r) ≡ false

@@ -5,6 +5,7 @@ use Rattle.table.specs.declared.Table.{Table}
 use Rattle.table.specs.Table.{with_count}
 
 -- ---- an accepted event
+
 -- the table after an accepted event that makes u of t: u, and one event more
 abbrev pub counting : Table → Table → Table
 counting t u = with_count u (t.count + 1)

@@ -5,6 +5,7 @@ use Rattle.step.specs.declared.Event.{Event}
 use Rattle.step.specs.declared.Ranges.{Ranges}
 
 -- ---- operands
+
 -- each operand is below its bound
 pub record Below (r : Ranges) (e : Event) : Type 0 where
   pub a : e.a < r.a

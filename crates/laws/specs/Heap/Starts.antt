@@ -9,6 +9,7 @@ use Rattle.table.specs.declared.Table.{Table}
 use Rattle.table.specs.Table.{entry_at}
 
 -- ---- the starts
+
 -- o is an object of p whose directory has RC above 0 or MsgCtr not 0
 pub record Counted (t : Table) (p o : ℕ) : Type 0 where
   pub own : owner o ≡ p
