@@ -25,7 +25,6 @@ use Rattle.step.specs.Step.{step}
 use Rattle.image.specs.declared.Loaded.{Loaded}
 use Rattle.image.specs.declared.Written as image
 use Rattle.image.specs.Reader.{read}
-use Rattle.image.specs.Writer.{put_answer, put_length, put_bytes, write_answer, write_length, write_bytes}
 use Rattle.run.specs.declared.Ran.{Ran}
 use Rattle.run.specs.Ran.{ran, run_bytes}
 use Rattle.scenario.specs.declared.Written as scenario
@@ -98,26 +97,11 @@ depth_determined c p =
 pub read_determined : (bytes : List ℕ) → Determined (λ (r : Loaded). r ≡ read bytes)
 read_determined bytes = named (read bytes)
 
--- the writer's promise tells answer, length and buffer apart
+-- the writer's promise tells answer, length and buffer apart; that it leaves nothing open is proved in proofs/WriterDetermined.antt
 pub record Tells (answer size : ℕ) (bytes : List ℕ) (l : Left image.Written (List ℕ)) : Type 0 where
   pub number : l.back.answer ≡ answer
   pub length : l.back.length ≡ size
   pub buffer : l.lent ≡ bytes
-
--- and leaves nothing open
-pub told : (answer size : ℕ) (bytes : List ℕ) → Determined (Tells answer size bytes)
-told answer size bytes r s p q = both_named (record { answer = answer; length = size }) bytes r s (whole r p) (whole s q)
-  where
-    whole : (l : Left image.Written (List ℕ)) → Tells answer size bytes l → (l.back ≡ record { answer = answer; length = size }) × (l.lent ≡ bytes)
-    whole l w = (ap₂ (λ (a n : ℕ). record { answer = a; length = n }) w.number w.length, w.buffer)
-
--- `write`
-pub write_determined : (t : Table) (out : List ℕ) → Determined (Tells (write_answer t out) (write_length t out) (write_bytes t out))
-write_determined t out = told (write_answer t out) (write_length t out) (write_bytes t out)
-
--- `put_image`
-pub put_determined : (t : Table) (out : List ℕ) → Determined (Tells (put_answer t out) (put_length t out) (put_bytes t out))
-put_determined t out = told (put_answer t out) (put_length t out) (put_bytes t out)
 
 -- ---- whole calls
 
