@@ -2,10 +2,7 @@
 // standard error, and nothing is written to standard output.
 #![tactic(auto)]
 
-ghost use Rattle.std.specs.Prelude.{◌<◌, take, length, IfOk};
-ghost use Rattle.std.specs.Io.{ReadsAtMost};
-ghost use Rattle.std.specs.Io.KnownBytes.{Consumes, IsAtEnd};
-
+use input::read_full;
 use scenario::Written;
 use std::io::{self, Read};
 
@@ -50,32 +47,15 @@ fn answer(rt: &(impl Print + Eprint), text: &[u8], out: &mut [u8]) -> io::Result
 // The most bytes of text that are taken; by one more it is seen that there are too many.
 const TEXT: usize = 65536;
 
-// Reads until buf is full or the input has ended, and returns how many bytes it put at the start of buf.
-fn read_full<I: Read>(input: &mut I, buf: &mut [u8]) -> io::Result<usize>
-    ensures bound { ReadsAtMost result buf.new }
-    ensures bytes { IfOk result (λ n. Consumes (I.remaining input.old) (I.remaining input.new) (take n buf.new)) }
-    ensures end { IfOk result (λ n. n < length buf.new → IsAtEnd (I.remaining input.new)) }
-{
-    let mut done = 0;
-    while done < buf.len() {
-        let n = input.read(&mut buf[done..])?;
-        if n == 0 {
-            break;
-        }
-        done += n;
-    }
-    Ok(done)
-}
-
 fn main(rt: HostRuntime) -> io::Result<()> {
-    let mut input = rt.reader();
+    let mut reader = rt.reader();
     let mut text = [0u8; TEXT];
-    let Ok(n) = read_full(&mut input, &mut text) else {
+    let Ok(n) = read_full(&mut reader, &mut text) else {
         return say_not_read(&rt);
     };
     let mut more = [0u8; 1];
     // 0: the input has ended
-    if !matches!(input.read(&mut more), Ok(0)) {
+    if !matches!(reader.read(&mut more), Ok(0)) {
         if n < TEXT {
             return say_not_read(&rt);
         }
