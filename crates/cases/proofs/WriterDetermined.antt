@@ -3,7 +3,7 @@
 use Rattle.std.specs.Prelude.{◌≡◌, List, ℕ}
 use Rattle.std.proofs.Common.{ap₂}
 use Rattle.table.specs.declared.Table.{Table}
-use Rattle.image.specs.declared.Written as image
+use Rattle.image.specs.Writer as image
 use Rattle.image.specs.Writer.{put_answer, put_length, put_bytes, write_answer, write_length, write_bytes}
 use Rattle.cases.specs.Determined.{Determined, Left, Tells, both_named}
 

@@ -14,20 +14,20 @@ use Rattle.heap.specs.declared.Marks.{Marks}
 use Rattle.heap.specs.Heap.{fresh_heap, roots_of}
 use Rattle.heap.specs.Walk.{held_by, owned_by, pointed, reached}
 use Rattle.table.specs.declared.Cell.{Cell}
-use Rattle.table.specs.declared.Depth.{Depth}
+use Rattle.table.specs.Depth.{Depth}
 use Rattle.table.specs.declared.Table.{Table}
 use Rattle.table.specs.Depth.{depth}
 use Rattle.table.specs.Table.{cell_at}
 use Rattle.step.specs.declared.Event.{Event}
-use Rattle.step.specs.declared.Outcome.{Outcome}
+use Rattle.step.specs.Outcome.{Outcome}
 use Rattle.step.specs.Outcome.{value_of}
 use Rattle.step.specs.Step.{step}
-use Rattle.image.specs.declared.Loaded.{Loaded}
-use Rattle.image.specs.declared.Written as image
+use Rattle.image.specs.Reader.{Loaded}
+use Rattle.image.specs.Writer as image
 use Rattle.image.specs.Reader.{read}
-use Rattle.run.specs.declared.Ran.{Ran}
+use Rattle.run.specs.Ran.{Ran}
 use Rattle.run.specs.Ran.{ran, run_bytes}
-use Rattle.scenario.specs.declared.Written as scenario
+use Rattle.scenario.specs.Written as scenario
 use Rattle.scenario.specs.Records.{buffer_of, written_of}
 use Rattle.etzvanul.specs.HostCall.{host_bytes, host_number, start_bytes, start_number}
 

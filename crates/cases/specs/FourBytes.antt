@@ -14,8 +14,8 @@ use Rattle.table.specs.declared.Message.TheVariants.{Reference}
 use Rattle.table.specs.declared.Table.{Table}
 use Rattle.table.specs.Table.{fresh_table, message_at, with_count, with_entry, with_heap, with_message}
 use Rattle.step.specs.declared.Event.{Event}
-use Rattle.step.specs.declared.Deed.TheVariants.{Collected}
-use Rattle.step.specs.declared.Outcome.{Outcome}
+use Rattle.step.specs.Deed.{Collected}
+use Rattle.step.specs.Outcome.{Outcome}
 use Rattle.step.specs.Event.{event, NEW, CLEAR, SEND, RECEIVE, SETTLE, COLLECT, DROP}
 use Rattle.step.specs.Step.{step}
 use Rattle.laws.specs.LawD.{LawD, in_use}

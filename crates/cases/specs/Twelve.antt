@@ -8,7 +8,7 @@ use Rattle.entry.specs.Acts.{directory}
 use Rattle.entry.specs.Entry.{returns}
 use Rattle.table.specs.Table.{entry_at}
 use Rattle.step.specs.declared.Event.{Event}
-use Rattle.step.specs.declared.Outcome.{Outcome}
+use Rattle.step.specs.Outcome.{Outcome}
 use Rattle.step.specs.Event.{event, NEW, CLEAR, SEND, RECEIVE, SETTLE, COLLECT, DROP}
 use Rattle.step.specs.EventRecord.{OPERANDS, record_widths}
 use Rattle.step.specs.Outcome.{value_of}

@@ -15,7 +15,7 @@ use Rattle.heap.specs.Walk.{pointed}
 use Rattle.table.specs.declared.Table.{Table}
 use Rattle.table.specs.Table.{entry_at}
 use Rattle.step.specs.declared.Event.{Event}
-use Rattle.step.specs.declared.Outcome.{Outcome}
+use Rattle.step.specs.Outcome.{Outcome}
 use Rattle.step.specs.Collect.{collect, counted}
 use Rattle.step.specs.Drop.{drop_of}
 use Rattle.step.specs.Event.{COLLECT, DROP}

@@ -1,21 +1,40 @@
 -- The small acts by which an entry changes (document 01, "Events"; document 000, section 4.5). An act hands back the entry with the
 -- refusal beside it: TORN where a count would leave its range, the entry then as it was. Definitions only; assumes nothing.
-use Rattle.std.specs.Prelude.{Bool, true, false, not, ℕ, ◌+◌, ◌-◌, leb, ltb, eqb, if◌then◌else◌}
+use Rattle.std.specs.Prelude.{Bool, true, false, not, ℕ, ◌+◌, ◌-◌, leb, ltb, eqb, if◌then◌else◌, Option, Some, None}
 use Rattle.terms.specs.Choose.{◌and◌}
 use Rattle.terms.specs.Limits.{MOST}
 use Rattle.terms.specs.Numbers.{ACCEPTED, TORN}
+use Rattle.terms.specs.Refusals.{refusal_number}
+use Rattle.entry.specs.declared.Act.{Act}
 use Rattle.entry.specs.declared.ReturnCount.{ReturnCount}
 use Rattle.entry.specs.declared.Weight.{Weight}
 use Rattle.entry.specs.declared.Directory.{Directory}
 use Rattle.entry.specs.declared.Remote.{Remote}
-use Rattle.entry.specs.declared.DirectoryAct.{DirectoryAct}
-use Rattle.entry.specs.declared.RemoteAct.{RemoteAct}
 use Rattle.entry.specs.Entry.{weight, none, more, fewer, both, is_clear_directory}
 use Rattle.entry.specs.Fits.{fits_returns, fits_directory_returns}
+
+-- what an act comes to: the refusal's number, 0 if there is none, and the entry, unchanged if refused
+pub record Acted (E : Type 0) : Type 0 where
+  pub refusal : ℕ
+  pub entry : E
+
+abbrev pub DirectoryAct : Type 0
+DirectoryAct = Acted Directory
+
+abbrev pub RemoteAct : Type 0
+RemoteAct = Acted Remote
+
+-- what the code's act tells
+abbrev pub told : {E : Type 0} → Act E → Acted E
+told a = record { refusal = refusal_number a.refusal; entry = a.entry }
 
 -- a count moved from c to d within its range
 abbrev pub stays : (ReturnCount → Bool) → ReturnCount → ReturnCount → Bool
 stays range c d = range c and range d
+
+-- two counts together, if the first and the sum lie within the range
+abbrev pub sum_within : (ReturnCount → Bool) → ReturnCount → ReturnCount → Option ReturnCount
+sum_within range c m = if stays range c (both c m) then Some (both c m) else None
 
 -- ---- the directory
 

@@ -8,11 +8,12 @@ use Rattle.entry.specs.declared.Weight.{Weight}
 use Rattle.entry.specs.declared.Remote.{Remote}
 use Rattle.entry.specs.declared.Entry.{Entry}
 use Rattle.entry.specs.declared.Entry.TheVariants.{Absent, AtOwner, Elsewhere}
-use Rattle.entry.specs.declared.DirectoryAct.{DirectoryAct}
-use Rattle.entry.specs.declared.RemoteAct.{RemoteAct}
-use Rattle.entry.specs.declared.EntryAct.{EntryAct}
+use Rattle.entry.specs.Acts.{Acted, DirectoryAct, RemoteAct}
 use Rattle.entry.specs.Acts.{first_sent, directory_sent, directory_came_home, directory_settled, directory_may_go}
 use Rattle.entry.specs.Acts.{first_received, remote_sent, remote_sent_home, remote_received_again, remote_settled, remote_set_unused, remote_may_go}
+
+abbrev pub EntryAct : Type 0
+EntryAct = Acted Entry
 
 abbrev pub done : Entry → EntryAct
 done e = record { refusal = ACCEPTED; entry = e }

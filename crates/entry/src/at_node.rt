@@ -3,53 +3,16 @@ ghost use Rattle.std.specs.Prelude.{◌≡◌, eqb};
 ghost use Rattle.terms.specs.Limits.{owner};
 ghost use Rattle.entry.specs.Entry.{is_absent, is_present, is_clear};
 ghost use Rattle.entry.specs.Fits.{fits_entry};
-ghost use Rattle.entry.specs.AtNode.{done, torn, refuses, of_directory, of_remote, holder_sent, sent, received, settled, set_unused, may_go};
+ghost use Rattle.entry.specs.AtNode.{refuses, holder_sent, sent, received, settled, set_unused, may_go};
+ghost use Rattle.entry.specs.Acts.{told};
 
-use crate::{Directory, DirectoryAct, Entry, EntryAct, Remote, RemoteAct, ReturnCount, Weight};
+use crate::{Act, Directory, Entry, Remote, ReturnCount, Weight};
 
-impl EntryAct {
-    fn done(e: Entry) -> EntryAct
-        ensures { result ≡ done e }
-    {
-        EntryAct {
-            refusal: EntryAct::ACCEPTED,
-            entry: e,
-        }
-    }
-
-    fn torn(e: Entry) -> EntryAct
-        ensures { result ≡ torn e }
-    {
-        EntryAct {
-            refusal: EntryAct::TORN,
-            entry: e,
-        }
-    }
-
-    fn of_directory(a: DirectoryAct) -> EntryAct
-        ensures { result ≡ of_directory a }
-    {
-        let d = a.entry;
-        EntryAct {
-            refusal: a.refusal,
-            entry: Entry::AtOwner(d),
-        }
-    }
-
-    fn of_remote(a: RemoteAct) -> EntryAct
-        ensures { result ≡ of_remote a }
-    {
-        let e = a.entry;
-        EntryAct {
-            refusal: a.refusal,
-            entry: Entry::Elsewhere(e),
-        }
-    }
-
+impl Act<Entry> {
     pub fn refuses(self) -> bool
-        ensures { result ≡ refuses self }
+        ensures { result ≡ refuses (told self) }
     {
-        self.refusal != EntryAct::ACCEPTED
+        self.refusal.is_some()
     }
 }
 
@@ -58,68 +21,64 @@ impl Entry {
     fn is_owner(node: u8, object: u8) -> bool
         ensures { result ≡ eqb node (owner object) }
     {
-        let owner = object / Entry::OWNED;
-        node == owner
+        node == object / Entry::OWNED
     }
 
     // The sender's entry when the object's reference goes from node to node.
     #[tactic(auto, unfolding(crate::specs::AtNode::sent))]
-    pub fn sent(self, from: u8, to: u8, object: u8) -> EntryAct
-        ensures { result ≡ sent from to object self }
+    pub fn sent(self, from: u8, to: u8, object: u8) -> Act<Entry>
+        ensures { told result ≡ sent from to object self }
     {
         match self {
             Entry::Absent => {
                 if Entry::is_owner(from, object) {
-                    return EntryAct::done(Entry::AtOwner(Directory::first_sent()));
+                    return Act::done(Entry::AtOwner(Directory::first_sent()));
                 }
-                EntryAct::torn(Entry::Absent)
+                Act::torn(Entry::Absent)
             }
-            Entry::AtOwner(d) => EntryAct::of_directory(d.sent()),
+            Entry::AtOwner(d) => d.sent().map(Entry::AtOwner),
             Entry::Elsewhere(e) => Entry::holder_sent(Entry::is_owner(to, object), e),
         }
     }
 
     // A holder sends on. It needs Presence; home is the way to the owner.
     #[tactic(auto, unfolding(crate::specs::AtNode::holder_sent))]
-    fn holder_sent(home: bool, e: Remote) -> EntryAct
-        ensures { result ≡ holder_sent home e }
+    fn holder_sent(home: bool, e: Remote) -> Act<Entry>
+        ensures { told result ≡ holder_sent home e }
     {
-        let present = e.presence;
-        if !present {
-            return EntryAct::torn(Entry::Elsewhere(e));
+        if !e.presence {
+            return Act::torn(Entry::Elsewhere(e));
         }
-        if home {
-            return EntryAct::of_remote(e.sent_home());
-        }
-        EntryAct::of_remote(e.sent())
+        let act = if home { e.sent_home() } else { e.sent() };
+        act.map(Entry::Elsewhere)
     }
 
     // The receiver's entry when the reference arrives.
     #[tactic(auto, unfolding(crate::specs::AtNode::received))]
-    pub fn received(self, from: u8, to: u8, object: u8) -> EntryAct
-        ensures { result ≡ received from to object self }
+    pub fn received(self, from: u8, to: u8, object: u8) -> Act<Entry>
+        ensures { told result ≡ received from to object self }
     {
         match self {
             Entry::Absent => {
                 if Entry::is_owner(to, object) {
-                    return EntryAct::torn(Entry::Absent);
+                    return Act::torn(Entry::Absent);
                 }
-                EntryAct::done(Entry::Elsewhere(Remote::first_received(from)))
+                Act::done(Entry::Elsewhere(Remote::first_received(from)))
             }
-            Entry::AtOwner(d) => EntryAct::of_directory(d.came_home()),
-            Entry::Elsewhere(e) => EntryAct::of_remote(e.received_again(from)),
+            Entry::AtOwner(d) => d.came_home().map(Entry::AtOwner),
+            Entry::Elsewhere(e) => e.received_again(from).map(Entry::Elsewhere),
         }
     }
 
     // The receiver's entry when a decrement arrives.
     #[tactic(auto, unfolding(crate::specs::AtNode::settled))]
-    pub fn settled(self, m: ReturnCount, n: Weight) -> EntryAct
-        ensures { result ≡ settled m n self }
+    pub fn settled(self, m: ReturnCount, n: Weight) -> Act<Entry>
+        ensures { told result ≡ settled m n self }
     {
         match self {
-            Entry::Absent => EntryAct::torn(Entry::Absent),
-            Entry::AtOwner(d) => EntryAct::of_directory(d.settled(m, n)),
-            Entry::Elsewhere(e) => EntryAct::of_remote(e.settled(m, n)),
+            Entry::Absent => Act::torn(Entry::Absent),
+            Entry::AtOwner(d) => d.settled(m, n).map(Entry::AtOwner),
+            Entry::Elsewhere(e) => e.settled(m, n).map(Entry::Elsewhere),
         }
     }
 
@@ -128,9 +87,8 @@ impl Entry {
         ensures { result ≡ set_unused self }
     {
         match self {
-            Entry::Absent => Entry::Absent,
-            Entry::AtOwner(d) => Entry::AtOwner(d),
             Entry::Elsewhere(e) => Entry::Elsewhere(e.set_unused()),
+            other => other,
         }
     }
 
@@ -154,44 +112,22 @@ impl Entry {
         let own = Entry::is_owner(node, object);
         match self {
             Entry::Absent => true,
-            Entry::AtOwner(d) => {
-                if !own {
-                    return false;
-                }
-                d.fits()
-            }
-            Entry::Elsewhere(e) => {
-                if own {
-                    return false;
-                }
-                let parent = e.parent;
-                if parent == node {
-                    return false;
-                }
-                e.fits()
-            }
+            Entry::AtOwner(d) => own && d.fits(),
+            Entry::Elsewhere(e) => !own && e.parent != node && e.fits(),
         }
     }
 
     pub fn is_absent(self) -> bool
         ensures { result ≡ is_absent self }
     {
-        match self {
-            Entry::Absent => true,
-            Entry::AtOwner(_) => false,
-            Entry::Elsewhere(_) => false,
-        }
+        matches!(self, Entry::Absent)
     }
 
     // A remote entry in use.
     pub fn is_present(self) -> bool
         ensures { result ≡ is_present self }
     {
-        match self {
-            Entry::Absent => false,
-            Entry::AtOwner(_) => false,
-            Entry::Elsewhere(e) => e.presence,
-        }
+        matches!(self, Entry::Elsewhere(e) if e.presence)
     }
 
     // The directory is clear: none stands, or both its numbers are 0.

@@ -1,9 +1,10 @@
 // The acts on a remote entry, which any node but the owner holds. An act that a count forbids leaves it as it was.
+// `sent` and `settled` read like a directory's and stand apart all the same: the rules state an act for each sort, and a return count's range differs.
 ghost use Rattle.std.specs.Prelude.{◌≡◌};
 ghost use Rattle.entry.specs.Fits.{fits_remote};
-ghost use Rattle.entry.specs.Acts.{first_received, remote_sent, remote_sent_home, remote_received_again, remote_settled, remote_set_unused, remote_may_go};
+ghost use Rattle.entry.specs.Acts.{told, first_received, remote_sent, remote_sent_home, remote_received_again, remote_settled, remote_set_unused, remote_may_go};
 
-use crate::{Entry, EntryAct, Remote, RemoteAct, ReturnCount, Weight};
+use crate::{Act, Entry, Remote, ReturnCount, Weight};
 
 impl Remote {
     // A first reference arrived: its sender is the Parent, now and for good.
@@ -21,101 +22,57 @@ impl Remote {
 
     // Sent on to a node that isn't the owner.
     #[tactic(auto, unfolding(crate::specs::Acts::remote_sent))]
-    pub fn sent(mut self) -> RemoteAct
-        ensures { result ≡ remote_sent self }
+    pub fn sent(mut self) -> Act<Remote>
+        ensures { told result ≡ remote_sent self }
     {
-        let rc = self.rc;
-        if Weight::MOST <= rc {
-            return RemoteAct {
-                refusal: EntryAct::TORN,
-                entry: self,
-            };
+        if Weight::MOST <= self.rc {
+            return Act::torn(self);
         }
-        self.rc = rc + 1;
-        RemoteAct {
-            refusal: EntryAct::ACCEPTED,
-            entry: self,
-        }
+        self.rc += 1;
+        Act::done(self)
     }
 
     // Sent home to the owner: a return, and no reference that this node counts.
     #[tactic(auto, unfolding(crate::specs::Acts::remote_sent_home))]
-    pub fn sent_home(mut self) -> RemoteAct
-        ensures { result ≡ remote_sent_home self }
+    pub fn sent_home(mut self) -> Act<Remote>
+        ensures { told result ≡ remote_sent_home self }
     {
-        let c = self.msg_ctr;
-        let one = ReturnCount(1);
-        if !c.takes(one) {
-            return RemoteAct {
-                refusal: EntryAct::TORN,
-                entry: self,
-            };
-        }
-        let more = c.both(one);
+        let Some(more) = self.msg_ctr.sum(ReturnCount(1)) else {
+            return Act::torn(self);
+        };
         self.msg_ctr = more;
-        RemoteAct {
-            refusal: EntryAct::ACCEPTED,
-            entry: self,
-        }
+        Act::done(self)
     }
 
     // A reference arrived again. From the Parent it adds to the weight; any other sender gets it back as a decrement.
     #[tactic(auto, unfolding(crate::specs::Acts::remote_received_again))]
-    pub fn received_again(mut self, sender: u8) -> RemoteAct
-        ensures { result ≡ remote_received_again self sender }
+    pub fn received_again(mut self, sender: u8) -> Act<Remote>
+        ensures { told result ≡ remote_received_again self sender }
     {
-        let parent = self.parent;
-        let w = self.ref_weight.0;
-        if parent != sender {
-            self.presence = true;
-            return RemoteAct {
-                refusal: EntryAct::ACCEPTED,
-                entry: self,
-            };
+        if self.parent == sender {
+            if Weight::MOST <= self.ref_weight.0 {
+                return Act::torn(self);
+            }
+            self.ref_weight.0 += 1;
         }
-        if Weight::MOST <= w {
-            return RemoteAct {
-                refusal: EntryAct::TORN,
-                entry: self,
-            };
-        }
-        let heavier = Weight(w + 1);
         self.presence = true;
-        self.ref_weight = heavier;
-        RemoteAct {
-            refusal: EntryAct::ACCEPTED,
-            entry: self,
-        }
+        Act::done(self)
     }
 
     // A decrement arrived: it takes n references away and brings m returns.
     #[tactic(auto, unfolding(crate::specs::Acts::remote_settled))]
-    pub fn settled(mut self, m: ReturnCount, n: Weight) -> RemoteAct
-        ensures { result ≡ remote_settled self m n }
+    pub fn settled(mut self, m: ReturnCount, n: Weight) -> Act<Remote>
+        ensures { told result ≡ remote_settled self m n }
     {
-        let rc = self.rc;
-        let w = n.0;
-        let c = self.msg_ctr;
-        let torn = RemoteAct {
-            refusal: EntryAct::TORN,
-            entry: self,
+        if self.rc < n.0 || !m.fits() {
+            return Act::torn(self);
+        }
+        let Some(joined) = self.msg_ctr.sum(m) else {
+            return Act::torn(self);
         };
-        if rc < w {
-            return torn;
-        }
-        if !m.fits() {
-            return torn;
-        }
-        if !c.takes(m) {
-            return torn;
-        }
-        let joined = c.both(m);
-        self.rc = rc - w;
+        self.rc -= n.0;
         self.msg_ctr = joined;
-        RemoteAct {
-            refusal: EntryAct::ACCEPTED,
-            entry: self,
-        }
+        Act::done(self)
     }
 
     // Nothing at the node holds the object any more.
@@ -130,11 +87,7 @@ impl Remote {
     pub fn may_go(self) -> bool
         ensures { result ≡ remote_may_go self }
     {
-        let present = self.presence;
-        if present {
-            return false;
-        }
-        self.rc == 0
+        !self.presence && self.rc == 0
     }
 
     // Whether its numbers are in their ranges.
@@ -142,19 +95,9 @@ impl Remote {
     pub fn fits(self) -> bool
         ensures { result ≡ fits_remote self }
     {
-        let rc = self.rc;
-        if Weight::MOST < rc {
-            return false;
-        }
-        let parent = self.parent;
-        if Entry::NODES <= parent {
-            return false;
-        }
-        let c = self.msg_ctr;
-        if !c.fits() {
-            return false;
-        }
-        let w = self.ref_weight;
-        w.fits()
+        self.rc <= Weight::MOST
+            && self.parent < Entry::NODES
+            && self.msg_ctr.fits()
+            && self.ref_weight.fits()
     }
 }

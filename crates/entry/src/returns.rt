@@ -1,8 +1,8 @@
 // Return counts and weights: their ranges, and sums that stay within them.
-ghost use Rattle.std.specs.Prelude.{◌≡◌, true, false};
-ghost use Rattle.entry.specs.Entry.{is_none, both};
+ghost use Rattle.std.specs.Prelude.{◌≡◌};
+ghost use Rattle.entry.specs.Entry.{is_none};
 ghost use Rattle.entry.specs.Fits.{fits_returns, fits_directory_returns, fits_weight};
-ghost use Rattle.entry.specs.Acts.{stays};
+ghost use Rattle.entry.specs.Acts.{sum_within};
 
 use crate::{ReturnCount, Weight};
 
@@ -17,65 +17,37 @@ impl ReturnCount {
     pub fn fits(self) -> bool
         ensures { result ≡ fits_returns self }
     {
-        let c = self.0;
-        if c < 0 {
-            return false;
-        }
-        c <= ReturnCount::MOST
+        0 <= self.0 && self.0 <= ReturnCount::MOST
     }
 
     // Whether a directory may hold it.
     pub fn fits_directory(self) -> bool
         ensures { result ≡ fits_directory_returns self }
     {
-        let c = self.0;
-        if c < ReturnCount::LEAST {
-            return false;
-        }
-        c <= ReturnCount::MOST
+        ReturnCount::LEAST <= self.0 && self.0 <= ReturnCount::MOST
     }
 
     // Exactly zero: a count below zero isn't.
     pub fn is_none(self) -> bool
         ensures { result ≡ is_none self.0 }
     {
-        let c = self.0;
-        c == 0
+        self.0 == 0
     }
 
-    // The two counts together. In range, they cannot wrap.
-    pub(crate) fn both(self, m: ReturnCount) -> ReturnCount
-        requires { (fits_directory_returns self ≡ true) × (fits_directory_returns m ≡ true) }
-        ensures { result ≡ both self m }
+    // A directory's count with m, if it stays a directory's.
+    pub(crate) fn directory_sum(self, m: ReturnCount) -> Option<ReturnCount>
+        ensures { result ≡ sum_within fits_directory_returns self m }
     {
-        let c = self.0;
-        let d = m.0;
-        let s = c + d;
-        ReturnCount(s)
+        let sum = ReturnCount(self.0.checked_add(m.0)?);
+        (self.fits_directory() && sum.fits_directory()).then_some(sum)
     }
 
-    // Whether a remote entry's count may take in m.
-    pub(crate) fn takes(self, m: ReturnCount) -> bool
-        requires { fits_directory_returns m ≡ true }
-        ensures { result ≡ stays fits_returns self (both self m) }
+    // A remote entry's count with m, if it stays a remote entry's, whose range is part of a directory's.
+    pub(crate) fn sum(self, m: ReturnCount) -> Option<ReturnCount>
+        ensures { result ≡ sum_within fits_returns self m }
     {
-        if !self.fits() {
-            return false;
-        }
-        let s = self.both(m);
-        s.fits()
-    }
-
-    // Whether a directory's count may take in m.
-    pub(crate) fn takes_directory(self, m: ReturnCount) -> bool
-        requires { fits_directory_returns m ≡ true }
-        ensures { result ≡ stays fits_directory_returns self (both self m) }
-    {
-        if !self.fits_directory() {
-            return false;
-        }
-        let s = self.both(m);
-        s.fits_directory()
+        let sum = self.directory_sum(m)?;
+        (self.fits() && sum.fits()).then_some(sum)
     }
 }
 
@@ -87,10 +59,6 @@ impl Weight {
     pub fn fits(self) -> bool
         ensures { result ≡ fits_weight self }
     {
-        let n = self.0;
-        if n == 0 {
-            return false;
-        }
-        n <= Weight::MOST
+        0 < self.0 && self.0 <= Weight::MOST
     }
 }

@@ -1,4 +1,5 @@
 pub mod Fresh
-pub mod Going
+pub mod Planning
+pub mod Refusals
 pub mod Slices
 pub mod Sweeping

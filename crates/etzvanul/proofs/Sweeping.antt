@@ -1,5 +1,6 @@
--- A COLLECT under way: the changes that are left, and the copying and the length one of them further. Assumes nothing.
-use Rattle.std.specs.Prelude.{◌≡◌, refl, List, [], ◌∷◌, ◌++◌, ℕ, ◌+◌, ◌-◌, ◌≤◌, ◌<◌, length}
+-- The copying and the length one change further, and a COLLECT under way: the changes that are left of it, and the functions that give them.
+-- Assumes nothing.
+use Rattle.std.specs.Prelude.{◌≡◌, refl, List, [], ◌∷◌, ◌++◌, ℕ, ◌+◌, ◌-◌, ◌*◌, ◌≤◌, ◌<◌, length, Option}
 use Rattle.std.proofs.Common.{sym, ap, ◌∙◌, arith}
 use Rattle.std.proofs.Math.Path.{subst}
 use Rattle.std.proofs.lemmas.List.Edits.{sets}
@@ -7,15 +8,19 @@ use Rattle.terms.specs.Counted.{list_from}
 use Rattle.terms.proofs.CountedLaws.{list_from_first, list_from_none}
 use Rattle.terms.specs.Limits.{OBJECTS, OWNED}
 use Rattle.image.specs.declared.Held.TheVariants as h
-use Rattle.image.specs.Stored.{FULL, Stored}
-use Rattle.plan.specs.declared.Change.{Change}
-use Rattle.plan.specs.declared.Change.TheVariants.{To}
+use Rattle.image.specs.Order.{position}
+use Rattle.image.specs.Stored.{FULL}
+use Rattle.splice.specs.Onward.{From}
+use Rattle.plan.specs.declared.Replacement.{Replacement}
+use Rattle.plan.specs.Made.{change_of}
+use Rattle.plan.specs.Change.{Change, To, Sweep}
 use Rattle.etzvanul.specs.declared.Cursor.{Cursor}
-use Rattle.plan.specs.declared.Sweep.{Sweep}
-use Rattle.etzvanul.specs.Orderly.{Orderly, Cuts, Moved, passed, put, put_to, length_with, length_after, counted_length}
+use Rattle.etzvanul.specs.Orderly.{Orderly, Cuts, Moved, passed, put, length_with, length_after, counted_length}
 use Rattle.plan.specs.Sweep.{object_gone, directory_gone, entry_unused, sweep_changes}
-use Rattle.etzvanul.specs.Spliced.{spliced, swept_image}
-use Rattle.etzvanul.proofs.Going.{Going, ready, on, start, begun, Lasting, taken, lasting_on}
+use Rattle.etzvanul.specs.InTurn.{Gives}
+use Rattle.etzvanul.specs.SweepOnward.{Resumes, first_on, object_on, directory_on, entry_on}
+use Rattle.etzvanul.specs.Spliced.{swept_image}
+use Rattle.etzvanul.specs.Going.{Going, ready, on, start, Lasting, taken, lasting_on, Measured}
 
 -- ---- the changes left
 
@@ -31,30 +36,11 @@ objects_left l p s i = list_from i (OWNED - i) (object_gone l p s.gone) ++ direc
 
 -- a list of changes before others, one further
 module _ (f : ℕ → Change) (rest : List Change) (i n : ℕ) where
-  next_left : i < n → list_from i (n - i) f ++ rest ≡ f i ∷ (list_from (i + 1) (n - (i + 1)) f ++ rest)
+  pub next_left : i < n → list_from i (n - i) f ++ rest ≡ f i ∷ (list_from (i + 1) (n - (i + 1)) f ++ rest)
   next_left lt = ap (λ (cs : List Change). cs ++ rest) (list_from_first lt f)
 
-  none_left : n ≤ i → list_from i (n - i) f ++ rest ≡ rest
+  pub none_left : n ≤ i → list_from i (n - i) f ++ rest ≡ rest
   none_left le = ap (λ (cs : List Change). cs ++ rest) (list_from_none le f)
-
-module _ (l : List ℕ) (p : ℕ) (s : Sweep) where
-  pub object_next : (i : ℕ) → i < OWNED → objects_left l p s i ≡ object_gone l p s.gone i ∷ objects_left l p s (i + 1)
-  object_next i lt = next_left (object_gone l p s.gone) (directories_left l p s 0) i OWNED lt
-
-  pub objects_done : (i : ℕ) → OWNED ≤ i → objects_left l p s i ≡ directories_left l p s 0
-  objects_done i le = none_left (object_gone l p s.gone) (directories_left l p s 0) i OWNED le
-
-  pub directory_next : (k : ℕ) → k < OWNED → directories_left l p s k ≡ directory_gone l p s.gone k ∷ directories_left l p s (k + 1)
-  directory_next k lt = next_left (directory_gone l p s.gone) (entries_left l p s 0) k OWNED lt
-
-  pub directories_done : (k : ℕ) → OWNED ≤ k → directories_left l p s k ≡ entries_left l p s 0
-  directories_done k le = none_left (directory_gone l p s.gone) (entries_left l p s 0) k OWNED le
-
-  pub entry_next : (o : ℕ) → o < OBJECTS → entries_left l p s o ≡ entry_unused l p s.unused o ∷ entries_left l p s (o + 1)
-  entry_next o lt = list_from_first lt (entry_unused l p s.unused)
-
-  pub entries_done : (o : ℕ) → OBJECTS ≤ o → entries_left l p s o ≡ []
-  entries_done o le = list_from_none le (entry_unused l p s.unused)
 
 -- ---- the copying
 
@@ -64,19 +50,13 @@ module _ (count : ℕ) (l : List ℕ) (p : ℕ) (s : Sweep) (out : List ℕ)
   unfolding sweep_changes
   sweep_start = start count (objects_left l p s 0) l out pre
 
-  pub sweep_begun : {to : ℕ} {out' : List ℕ} → Stored out 0 (put_to 0 0 0 0 (h.Count count) l) out' to
-      → Going (sets out 0 (swept_image count l p s)) l (objects_left l p s 0) 8 to out'
-  unfolding sweep_changes
-  sweep_begun st = begun count (objects_left l p s 0) l out pre st
-
--- what the changes left make of a buffer, and the copying as one that starts here
-abbrev pub after : List ℕ → ℕ → ℕ → List ℕ → List Change → List ℕ
-after out to from l cs = sets out to (spliced from cs l)
+  -- the event count stands
+  pub sweep_counted : Resumes l p s → {next : Cursor} {out' : List ℕ}
+      → Moved l (record { from = 0; to = 0 }) (To 0 8 0 0 (h.Count count)) out next out'
+      → Going (sets out 0 (swept_image count l p s)) l (objects_left l p s 0) next.from next.to out' × From l next.from (position 1 (OWNED * p + 0))
+  sweep_counted r put = (on sweep_start put, rw put.place (first_on r))
 
 module _ {whole l : List ℕ} {cs : List Change} {from to : ℕ} {out : List ℕ} (g : Going whole l cs from to out) where
-  pub anew : Going (after out to from l cs) l cs from to out
-  anew = record { orderly = g.orderly; room = g.room; left = refl }
-
   pub behind : {more : List Change} → cs ≡ more → Going whole l more from to out
   behind is = subst (λ (ds : List Change). Going whole l ds from to out) is g
 
@@ -94,12 +74,6 @@ module _ {whole l : List ℕ} {cs more : List Change} {from to : ℕ} {out : Lis
   on_next m = on first m
 
 -- ---- the length
-
--- the length so far and the changes left make the whole
-pub record Measured (n whole most : ℕ) (cs : List Change) (m : ℕ) : Type 0 where
-  pub from : ℕ
-  pub lasting : Lasting n most cs from m
-  pub left : length_after m cs ≡ whole
 
 module _ {n whole most : ℕ} {cs more : List Change} {m : ℕ} {x y : Change}
     (g : Measured n whole most cs m) (is : cs ≡ y ∷ more) (made : x ≡ y) where
@@ -147,3 +121,36 @@ module _ (l : List ℕ) (p : ℕ) (s : Sweep) (pre : (length l ≤ FULL) × Orde
   pub sweep_length : (count : ℕ) → length_after (length l) (objects_left l p s 0) ≡ length (swept_image count l p s)
   unfolding sweep_changes
   sweep_length count = counted_length count (objects_left l p s 0) l pre.1.2
+
+-- ---- the functions that give the changes in turn
+
+module _ {l : List ℕ} {p : ℕ} {s : Sweep} (r : Resumes l p s) {pre : ℕ → ℕ → Type 0} {post : ℕ → ℕ → Option Replacement → Type 0} where
+  pub object_gives : ((from k : ℕ) → k < OWNED → From l from (position 1 (OWNED * p + k)) → pre from k)
+      → ((from k : ℕ) (x : Option Replacement) → k < OWNED → From l from (position 1 (OWNED * p + k)) → post from k x
+      → change_of x ≡ object_gone l p s.gone k)
+      → Gives l OWNED pre post (object_gone l p s.gone) (λ k. position 1 (OWNED * p + k))
+  object_gives asked given = record {
+    asked = asked;
+    given = given;
+    onward = λ from k lt scan. object_on r {x = object_gone l p s.gone k} refl k lt refl scan;
+  }
+
+  pub directory_gives : ((from k : ℕ) → k < OWNED → From l from (position 3 (OWNED * p + k)) → pre from k)
+      → ((from k : ℕ) (x : Option Replacement) → k < OWNED → From l from (position 3 (OWNED * p + k)) → post from k x
+      → change_of x ≡ directory_gone l p s.gone k)
+      → Gives l OWNED pre post (directory_gone l p s.gone) (λ k. position 3 (OWNED * p + k))
+  directory_gives asked given = record {
+    asked = asked;
+    given = given;
+    onward = λ from k lt scan. directory_on r {x = directory_gone l p s.gone k} refl k lt refl scan;
+  }
+
+  pub entry_gives : ((from o : ℕ) → o < OBJECTS → From l from (position 4 (256 * p + o)) → pre from o)
+      → ((from o : ℕ) (x : Option Replacement) → o < OBJECTS → From l from (position 4 (256 * p + o)) → post from o x
+      → change_of x ≡ entry_unused l p s.unused o)
+      → Gives l OBJECTS pre post (entry_unused l p s.unused) (λ o. position 4 (256 * p + o))
+  entry_gives asked given = record {
+    asked = asked;
+    given = given;
+    onward = λ from o lt scan. entry_on r {x = entry_unused l p s.unused o} refl o lt refl scan;
+  }

@@ -7,8 +7,7 @@ use mathlib.Core.List.{List}
 use Rattle.terms.specs.Limits.{EVENTS, NODES}
 use Rattle.terms.specs.Numbers.{ACCEPTED, EVENT, ENDED}
 use Rattle.laws.proofs.Events.DidLaws.{below}
-use Rattle.step.specs.declared.Deed.{Deed}
-use Rattle.step.specs.declared.Deed.TheVariants.{Collected}
+use Rattle.step.specs.Deed.{Deed, Collected}
 use Rattle.step.specs.declared.Event.{Event}
 use Rattle.step.specs.declared.Kind.TheVariants.{Collect}
 use Rattle.step.specs.Collect.{collect}
@@ -22,8 +21,7 @@ use Rattle.image.specs.Reader.{read}
 use Rattle.etzvanul.specs.CallLaws.{refusal}
 use Rattle.etzvanul.specs.Comes.{Comes, call_of, plan_call, sweep_call, comes, unfit, ended}
 use Rattle.etzvanul.specs.HostCall.{called, number_in, buffer_in, host_number, host_bytes}
-use Rattle.plan.specs.declared.Plan.{Plan}
-use Rattle.plan.specs.declared.Sweep.{Sweep}
+use Rattle.plan.specs.Change.{Plan, Sweep}
 use Rattle.etzvanul.specs.Orderly.{Orderly}
 use Rattle.etzvanul.specs.OrderlyLaws.{planned_orderly, sweep_orderly}
 use Rattle.plan.specs.Plan.{changes_of, plan_of}

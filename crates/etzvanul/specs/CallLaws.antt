@@ -7,9 +7,8 @@ use Rattle.std.proofs.Math.ListN.{length}
 use borrow.Author.Tests.{eq-eqb, ne_eqb}
 use Rattle.terms.specs.Bytes.{over}
 use Rattle.terms.specs.Numbers.{ACCEPTED, EVENT, ROOM}
-use Rattle.step.specs.declared.Outcome.{Outcome}
+use Rattle.step.specs.Outcome.{Outcome, value_of}
 use Rattle.step.specs.EventRecord.{event_in, is_record}
-use Rattle.step.specs.Outcome.{value_of}
 use Rattle.step.specs.Step.{step}
 use Rattle.image.specs.Reader.{read}
 use Rattle.image.specs.Writer.{image, put_answer, put_length, put_bytes}

@@ -10,21 +10,18 @@ use Rattle.terms.specs.Bytes.{over}
 use Rattle.terms.specs.Choose.{◌when◌, answered}
 use Rattle.terms.specs.Limits.{EVENTS}
 use Rattle.terms.specs.Numbers.{ACCEPTED, EVENT, ENDED, ROOM}
-use Rattle.step.specs.declared.Deed.{Deed}
-use Rattle.step.specs.declared.Deed.TheVariants.{Collected}
+use Rattle.step.specs.Deed.{Deed, Collected}
 use Rattle.step.specs.declared.Event.{Event}
-use Rattle.step.specs.declared.Outcome.{Outcome}
+use Rattle.step.specs.Outcome.{Outcome, by, refused, value_of}
 use Rattle.step.specs.Event.{fits_event}
 use Rattle.step.specs.EventRecord.{event_in, is_record}
-use Rattle.step.specs.Outcome.{by, refused, value_of}
 use Rattle.step.specs.Step.{one_more, rule_of, step}
 use Rattle.table.specs.declared.Table.{Table}
 use Rattle.table.specs.Shape.{fits_table}
 use Rattle.table.specs.Table.{with_count}
 use Rattle.image.specs.Reader.{read}
 use Rattle.image.specs.Writer.{image}
-use Rattle.plan.specs.declared.Plan.{Plan}
-use Rattle.plan.specs.declared.Sweep.{Sweep}
+use Rattle.plan.specs.Change.{Plan, Sweep}
 use Rattle.etzvanul.specs.CallLaws.{refusal, success, event_refused, no_room, all_done}
 use Rattle.etzvanul.specs.HostCall.{Called, refused_call, done, called, number_of_call, number_in, buffer_in}
 use Rattle.etzvanul.specs.Spliced.{new_image, swept_image}

@@ -4,13 +4,11 @@ use Rattle.std.specs.Prelude.{not, List, [], ◌∷◌, ℕ, ◌+◌, ◌*◌, e
 use Rattle.terms.specs.Bytes.{over}
 use Rattle.terms.specs.Choose.{Refusal, ◌when◌, answered}
 use Rattle.terms.specs.Numbers.{ACCEPTED, EVENT, ROOM}
-use Rattle.step.specs.declared.Outcome.{Outcome}
-use Rattle.step.specs.Outcome.{value_of}
+use Rattle.step.specs.Outcome.{Outcome, value_of}
 use Rattle.step.specs.Step.{step}
 use Rattle.table.specs.Depth.{depth_report}
 use Rattle.table.specs.Table.{fresh_table}
-use Rattle.image.specs.declared.Loaded.{Loaded}
-use Rattle.image.specs.Reader.{read}
+use Rattle.image.specs.Reader.{Loaded, read}
 use Rattle.image.specs.Writer.{image}
 use Rattle.step.specs.EventRecord.{event_in, is_record}
 

@@ -1,7 +1,10 @@
 pub mod Amended
 pub mod CallLaws
 pub mod Comes
+pub mod Going
 pub mod HostCall
+pub mod InTurn
+pub mod Made
 pub mod Orderly
 pub mod OrderlyLaws
 pub mod Spliced

@@ -12,10 +12,8 @@ use Rattle.image.specs.Find.{held_records, entry_size, message_size, size_of}
 use Rattle.image.proofs.RecordBytesLaws.{size_records}
 use Rattle.image.specs.Stored.{Stored}
 use Rattle.image.specs.Writer.{bytes_of_all}
-use Rattle.plan.specs.declared.Change.{Change}
-use Rattle.plan.specs.declared.Change.TheVariants.{Same, To}
+use Rattle.plan.specs.Change.{Change, Same, To, Plan}
 use Rattle.etzvanul.specs.declared.Cursor.{Cursor}
-use Rattle.plan.specs.declared.Plan.{Plan}
 use Rattle.plan.specs.Plan.{changes_of}
 use Rattle.etzvanul.specs.Spliced.{spliced, new_image}
 

@@ -16,9 +16,8 @@ use Rattle.splice.proofs.Image.{records_fit}
 use Rattle.splice.specs.Patched.{Ascends}
 use Rattle.splice.specs.Patched as patched
 use Rattle.splice.proofs.Resumed.{offset_further}
-use Rattle.step.specs.declared.Outcome.{Outcome}
-use Rattle.plan.specs.declared.Change.{Change}
-use Rattle.plan.specs.declared.Plan.{Plan}
+use Rattle.step.specs.Outcome.{Outcome}
+use Rattle.plan.specs.Change.{Change, Plan}
 use Rattle.etzvanul.specs.Orderly.{Orderly}
 use Rattle.plan.specs.Plan.{changes_of}
 use Rattle.plan.specs.Planned.{Matches, none, same, made, Planned}

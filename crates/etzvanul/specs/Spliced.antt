@@ -2,10 +2,7 @@
 use Rattle.std.specs.Prelude.{List, [], ◌∷◌, ◌++◌, ℕ, ◌-◌, take, drop}
 use Rattle.image.specs.Find.{held_records}
 use Rattle.image.specs.Writer.{bytes_of_all}
-use Rattle.plan.specs.declared.Change.{Change}
-use Rattle.plan.specs.declared.Change.TheVariants.{Same, To}
-use Rattle.plan.specs.declared.Plan.{Plan}
-use Rattle.plan.specs.declared.Sweep.{Sweep}
+use Rattle.plan.specs.Change.{Change, Same, To, Plan, Sweep}
 use Rattle.plan.specs.Plan.{changes_of}
 use Rattle.plan.specs.Sweep.{sweep_changes}
 

@@ -13,11 +13,9 @@ use Rattle.splice.proofs.Image.{image_patched}
 use Rattle.splice.specs.Patched.{Ascends, Differs}
 use Rattle.splice.specs.Patched as patched
 use Rattle.splice.proofs.Resumed.{offset_further}
-use Rattle.step.specs.declared.Outcome.{Outcome}
+use Rattle.step.specs.Outcome.{Outcome, by}
 use Rattle.step.specs.Collect.{collect}
-use Rattle.step.specs.Outcome.{by}
-use Rattle.plan.specs.declared.Change.{Change}
-use Rattle.plan.specs.declared.Plan.{Plan}
+use Rattle.plan.specs.Change.{Change, Plan}
 use Rattle.plan.specs.Planned.{Matches, none, same, made, Planned}
 use Rattle.plan.specs.Sweep.{sweep_of}
 use Rattle.plan.specs.SweepLaws.{swept_differs}

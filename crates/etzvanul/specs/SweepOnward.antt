@@ -24,9 +24,7 @@ use Rattle.splice.proofs.Changed.{own_position}
 use Rattle.splice.specs.Onward.{From}
 use Rattle.splice.proofs.Resumed.{from_later, from_found}
 use Rattle.step.specs.CollectParts.{is_whole}
-use Rattle.plan.specs.declared.Change.{Change}
-use Rattle.plan.specs.declared.Change.TheVariants.{Same}
-use Rattle.plan.specs.declared.Sweep.{Sweep}
+use Rattle.plan.specs.Change.{Change, Same, Sweep}
 use Rattle.plan.specs.Plan.{at, entry_of}
 use Rattle.plan.specs.Sweep.{heap_in, counted_in, present_of, present_in, kept_in, held_in, refused_sweep, is_unused, swept_with, sweep_with, sweep_of}
 use Rattle.plan.specs.Sweep.{object_gone, directory_gone, entry_unused}

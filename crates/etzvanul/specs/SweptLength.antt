@@ -18,9 +18,7 @@ use Rattle.heap.specs.Walk.{is_marked}
 use Rattle.image.specs.declared.Held.{Held}
 use Rattle.image.specs.declared.Held.TheVariants as h
 use Rattle.image.specs.Find.{entry_in, found_from, size_of}
-use Rattle.plan.specs.declared.Change.{Change}
-use Rattle.plan.specs.declared.Change.TheVariants.{Same}
-use Rattle.plan.specs.declared.Sweep.{Sweep}
+use Rattle.plan.specs.Change.{Change, Same, Sweep}
 use Rattle.etzvanul.specs.Orderly.{Orderly, after_most, length_after, length_with, spliced-length}
 use Rattle.plan.specs.Plan.{at, entry_of, entry_spot_in}
 use Rattle.plan.specs.Sweep.{object_gone, directory_gone, entry_unused, sweep_changes}

@@ -6,104 +6,100 @@ ghost use Rattle.image.specs.Reader.{read};
 ghost use Rattle.image.specs.Stored.{FULL};
 ghost use Rattle.step.specs.declared.Kind.TheVariants.{Collect};
 ghost use Rattle.step.specs.Event.{kind_of};
+ghost use Rattle.plan.specs.Made.{accepted_plan, accepted_sweep};
+ghost use Rattle.plan.specs.Plan.{changes_of};
+ghost use Rattle.plan.specs.Sweep.{sweep_changes};
 ghost use Rattle.etzvanul.specs.Amended.{Back, Asked};
 ghost use Rattle.etzvanul.specs.Comes.{plan_call, sweep_call};
 ghost use Rattle.etzvanul.specs.HostCall.{number_in, buffer_in};
+ghost use Rattle.etzvanul.specs.Made.{number_made};
 ghost use Rattle.etzvanul.specs.Orderly.{Orderly};
-ghost use Rattle.plan.specs.Plan.{changes_of};
-ghost use Rattle.plan.specs.Sweep.{sweep_changes};
 ghost use Rattle.etzvanul.specs.SweepOnward.{Resumes};
 
-use crate::number_of;
+use crate::Done;
 use crate::puts::{length_after, put_plan};
 use crate::sweep_puts::{put_sweep, swept_length};
-use image::Written;
 use plan::{Plan, Sweep, plan_of, sweep_of};
 use reader::look_from;
-use step::{Event, Outcome};
+use step::{Event, Kind};
 use table::Table;
-
-// The kind of COLLECT, which has no plan.
-const COLLECT: u16 = 9;
+use terms::Refusal;
 
 // The call that a plan makes; n is the event count after the event.
-fn planned(image: &[u8], plan: Plan, n: u32, out: &mut [u8]) -> u64
+fn planned(image: &[u8], plan: &Plan, n: u32, out: &mut [u8]) -> Result<Done, Refusal>
     requires image_len_bound { length image.now + 100 ≤ FULL }
-    requires orderly { plan.answer ≡ ACCEPTED → Orderly 0 (changes_of n plan) (length image.now) }
-    ensures number { result ≡ number_in (plan_call n plan image.now out.old) }
-    ensures bytes { out.new ≡ buffer_in (plan_call n plan image.now out.old) out.old }
+    requires orderly { Orderly 0 (changes_of n (accepted_plan plan.now)) (length image.now) }
+    ensures number { number_made result ≡ number_in (plan_call n (accepted_plan plan.now) image.now out.old) }
+    ensures bytes { out.new ≡ buffer_in (plan_call n (accepted_plan plan.now) image.now out.old) out.old }
 {
-    if plan.answer != Outcome::ACCEPTED {
-        return plan.answer as u64;
-    }
     let size = length_after(image.len(), plan);
     if out.len() < size {
-        return Written::ROOM as u64;
+        return Err(Refusal::Room);
     }
     put_plan(out, image, n, plan);
-    let deed = plan.deed;
-    number_of(deed.value(), size)
+    Ok(Done {
+        value: plan.deed.value(),
+        length: size as u32,
+    })
 }
 
 // The call that a COLLECT at node p makes.
 #[tactic(auto, unfolding(plan::specs::Sweep::sweep_changes))]
-fn swept(image: &[u8], p: u8, s: Sweep, n: u32, out: &mut [u8]) -> u64
+fn swept(image: &[u8], p: u8, s: &Sweep, n: u32, out: &mut [u8]) -> Result<Done, Refusal>
     requires node { p < NODES }
     requires small { length image.now + 100 ≤ FULL }
-    requires orderly { s.answer ≡ ACCEPTED → Orderly 0 (sweep_changes n image.now p s) (length image.now) }
-    requires resumes { Resumes image.now p s }
-    ensures number { result ≡ number_in (sweep_call n p s image.now out.old) }
-    ensures bytes { out.new ≡ buffer_in (sweep_call n p s image.now out.old) out.old }
+    requires orderly { Orderly 0 (sweep_changes n image.now p (accepted_sweep s.now)) (length image.now) }
+    requires resumes { Resumes image.now p (accepted_sweep s.now) }
+    ensures number { number_made result ≡ number_in (sweep_call n p (accepted_sweep s.now) image.now out.old) }
+    ensures bytes { out.new ≡ buffer_in (sweep_call n p (accepted_sweep s.now) image.now out.old) out.old }
 {
-    if s.answer != Outcome::ACCEPTED {
-        return s.answer as u64;
-    }
     let size = swept_length(image, p, s);
     if out.len() < size {
-        return Written::ROOM as u64;
+        return Err(Refusal::Room);
     }
     put_sweep(out, image, n, p, s);
-    number_of(s.reclaimed, size)
+    Ok(Done {
+        value: s.reclaimed,
+        length: size as u32,
+    })
 }
 
 // Every event but COLLECT.
 #[tactic(auto, unfolding(step::specs::Event::kind_of))]
-fn change(image: &[u8], e: Event, count: u32, out: &mut [u8]) -> u64
+fn change(image: &[u8], e: Event, count: u32, out: &mut [u8]) -> Result<Done, Refusal>
     requires asked { Asked image.now e count }
-    requires kind_nonzero { kind_of e.kind ≢ Collect }
-    ensures { Back image.now e out.old result out.new }
+    requires other { kind_of e.kind ≢ Collect }
+    ensures { Back image.now e out.old (number_made result) out.new }
 {
-    let plan = plan_of(image, e);
-    planned(image, plan, count + 1, out)
+    let plan = plan_of(image, e)?;
+    planned(image, &plan, count + 1, out)
 }
 
 // COLLECT.
 #[tactic(auto, unfolding(step::specs::Event::kind_of))]
-fn collect(image: &[u8], e: Event, count: u32, out: &mut [u8]) -> u64
+fn collect(image: &[u8], e: Event, count: u32, out: &mut [u8]) -> Result<Done, Refusal>
     requires asked { Asked image.now e count }
-    requires kind_value { kind_of e.kind ≡ Collect }
-    ensures { Back image.now e out.old result out.new }
+    requires kind { kind_of e.kind ≡ Collect }
+    ensures { Back image.now e out.old (number_made result) out.new }
 {
-    let s = sweep_of(image, e.a);
-    swept(image, e.a, s, count + 1, out)
+    let s = sweep_of(image, e.a)?;
+    swept(image, e.a, &s, count + 1, out)
 }
 
 // What the host call promises of this event, whatever record it was read from.
-pub(crate) fn amend(image: &[u8], e: Event, out: &mut [u8]) -> u64
+pub(crate) fn amend(image: &[u8], e: Event, out: &mut [u8]) -> Result<Done, Refusal>
     requires { (read image.now).answer ≡ ACCEPTED }
-    ensures { Back image.now e out.old result out.new }
+    ensures { Back image.now e out.old (number_made result) out.new }
 {
     if !e.fits() {
-        return Outcome::EVENT as u64;
+        return Err(Refusal::Event);
     }
-    let first = look_from(image, 0, 0);
-    let held = first.held;
-    let count = held.count();
+    let count = look_from(image, 0, 0).held.count();
     if Table::EVENTS <= count {
-        return Outcome::ENDED as u64;
+        return Err(Refusal::Ended);
     }
-    if e.kind == COLLECT {
-        return collect(image, e, count, out);
+    match Kind::from(e.kind) {
+        Kind::Collect => collect(image, e, count, out),
+        _ => change(image, e, count, out),
     }
-    change(image, e, count, out)
 }

@@ -1,149 +1,148 @@
 // The new image of a plan: the old one copied once with the changes made, and how long that becomes.
-ghost use Rattle.std.specs.Prelude.{◌≡◌, [], ◌∷◌, ◌+◌, ◌≤◌, length, take, drop};
-ghost use Rattle.std.proofs.lemmas.List.Edits.{sets};
+ghost use Rattle.std.specs.Prelude.{◌≡◌, ℕ, List, [], ◌∷◌, ◌+◌, ◌*◌, ◌≤◌, length};
 ghost use Rattle.terms.specs.Bytes.{over};
+ghost use Rattle.image.specs.declared.Held.TheVariants as h;
 ghost use Rattle.image.specs.Stored.{FULL, Stored};
-ghost use Rattle.etzvanul.specs.Orderly.{Orderly, Cuts, Moved, passed, put_to, put, others, length_with, length_after};
+ghost use Rattle.splice.specs.Onward.{From};
+ghost use Rattle.plan.specs.Change.{Change, To};
+ghost use Rattle.plan.specs.Made.{accepted_plan, change_of};
 ghost use Rattle.plan.specs.Plan.{changes_of};
+ghost use Rattle.etzvanul.specs.Going.{Going, Measured};
+ghost use Rattle.etzvanul.specs.InTurn.{Puts, Measures};
+ghost use Rattle.etzvanul.specs.Orderly.{Orderly, Cuts, Moved, passed, put, others, length_with, length_after};
 ghost use Rattle.etzvanul.specs.Spliced.{new_image};
 
 use crate::Cursor;
 use image::Held;
-use plan::{Change, Plan};
+use plan::{Plan, Replacement};
 use writer::record_of;
 
 // The bytes of the record of the event count, which stands first.
 pub(crate) const COUNTED: usize = 8;
 
-// A part of the old image, from a place of the new one on.
-pub(crate) fn copy_part(out: &mut [u8], to: usize, l: &[u8], from: usize, n: usize)
-    requires { (to + n ≤ length out.old) × (from + n ≤ length l.now) }
-    ensures { out.new ≡ sets out.old to (take n (drop from l.now)) }
+// Bytes, from a place of the new image on; the place after them comes back.
+pub(crate) fn copy_part(out: &mut [u8], to: usize, part: &[u8]) -> usize
+    requires { to + length part.now ≤ length out.old }
+    ensures { Stored out.old to part.now out.new result }
 {
-    let mut i: usize = 0;
-    while i < n {
-        out[to + i] = l[from + i];
-        i += 1;
+    let next = to + part.len();
+    out[to..next].copy_from_slice(part);
+    next
+}
+
+// A change, if there is one: the old image up to a record, then the record that is to stand there.
+fn put_change(out: &mut [u8], l: &[u8], c: Cursor, change: Option<Replacement>) -> Cursor
+    requires { Orderly c.from (change_of change ∷ []) (length l.now) × (c.to + length (put c.from (change_of change) l.now) ≤ length out.old) }
+    ensures { Moved l.now c (change_of change) out.old result out.new }
+{
+    let Some(new) = change else {
+        return c;
+    };
+    let to = copy_part(out, c.to, &l[c.from..new.at]);
+    let record = record_of(new.a, new.b, new.held);
+    Cursor {
+        from: new.after,
+        to: copy_part(out, to, &record.bytes[..record.length]),
     }
 }
 
-// The old image up to a record, then the record that is to stand there; the place after it comes back.
-pub(crate) fn put_to(
+// The first n changes that a function gives, each looked for from where the last one ended.
+pub(crate) fn put_changes<F: Fn(usize, u8) -> Option<Replacement>>(
     out: &mut [u8],
-    to: usize,
     l: &[u8],
-    from: usize,
-    at: usize,
-    a: u8,
-    b: u8,
-    held: Held,
-) -> usize
-    requires { (from ≤ at) × (at ≤ length l.now) × (to + length (put_to from at a b held l.now) ≤ length out.old) }
-    ensures { Stored out.old to (put_to from at a b held l.now) out.new result }
+    c: Cursor,
+    n: u8,
+    change: F,
+) -> Cursor
+    requires { (g : ℕ → Change) × (place : ℕ → ℕ) × (whole : List ℕ) × (rest : List Change)
+        × Puts l.now n (F.pre change) (F.post change) g place whole rest c out.old }
+    ensures { (g : ℕ → Change) (place : ℕ → ℕ) (whole : List ℕ) (rest : List Change)
+        → Puts l.now n (F.pre change) (F.post change) g place whole rest c out.old
+        → Going whole l.now rest result.from result.to out.new × From l.now result.from (place n) }
 {
-    let n = at - from;
-    copy_part(out, to, l, from, n);
-    let next = to + n;
-    let made = record_of(a, b, held);
-    let bytes = made.bytes;
-    let length = made.length;
-    copy_part(out, next, &bytes, 0, length);
-    next + length
+    let mut next = c;
+    for k in 0..n {
+        next = put_change(out, l, next, change(next.from, k));
+    }
+    next
 }
 
-// A change, if there is one.
-pub(crate) fn put_change(out: &mut [u8], l: &[u8], c: Cursor, change: Change) -> Cursor
-    requires { Orderly c.from (change ∷ []) (length l.now) × (c.to + length (put c.from change l.now) ≤ length out.old) }
-    ensures { Moved l.now c change out.old result out.new }
+// How long n bytes become by the first changes that a function gives, `many` of them, and where the last one ends.
+pub(crate) fn length_changes<F: Fn(usize, u8) -> Option<Replacement>>(
+    n: usize,
+    at: usize,
+    many: u8,
+    change: F,
+) -> (usize, usize)
+    requires { (l : List ℕ) × (g : ℕ → Change) × (place : ℕ → ℕ) × (old : ℕ) × (whole : ℕ) × (most : ℕ) × (rest : List Change)
+        × Measures l many (F.pre change) (F.post change) g place old whole most rest at n }
+    ensures { (l : List ℕ) (g : ℕ → Change) (place : ℕ → ℕ) (old whole most : ℕ) (rest : List Change)
+        → Measures l many (F.pre change) (F.post change) g place old whole most rest at n
+        → Measured old whole (most + 20 * many) rest result.0 × From l result.1 (place many) }
 {
-    let from = c.from;
-    let to = c.to;
-    match change {
-        Change::Same => c,
-        Change::To {
-            at,
-            after,
-            a,
-            b,
-            held,
-        } => {
-            let next = put_to(out, to, l, from, at, a, b, held);
-            Cursor {
-                from: after,
-                to: next,
-            }
-        }
+    let mut length = n;
+    let mut from = at;
+    for k in 0..many {
+        let new = change(from, k);
+        length = length_with(length, new);
+        from = place_after(from, new);
     }
+    (length, from)
+}
+
+// The event count, with which every image begins.
+pub(crate) fn put_count(out: &mut [u8], l: &[u8], count: u32) -> Cursor
+    requires { Orderly 0 (To 0 8 0 0 (h.Count count) ∷ []) (length l.now) × (length (put 0 (To 0 8 0 0 (h.Count count)) l.now) ≤ length out.old) }
+    ensures { Moved l.now (record { from = 0; to = 0 }) (To 0 8 0 0 (h.Count count)) out.old result out.new }
+{
+    let counted = Replacement {
+        at: 0,
+        after: COUNTED,
+        a: 0,
+        b: 0,
+        held: Held::Count(count),
+    };
+    put_change(out, l, Cursor { from: 0, to: 0 }, Some(counted))
 }
 
 // The new image at the front of out.
-pub(crate) fn put_plan(out: &mut [u8], l: &[u8], count: u32, plan: Plan)
-    requires { Orderly 0 (changes_of count plan) (length l.now) × (length (new_image count plan l.now) ≤ length out.old) }
-    ensures { out.new ≡ over (new_image count plan l.now) out.old }
+pub(crate) fn put_plan(out: &mut [u8], l: &[u8], count: u32, plan: &Plan)
+    requires { Orderly 0 (changes_of count (accepted_plan plan.now)) (length l.now) × (length (new_image count (accepted_plan plan.now) l.now) ≤ length out.old) }
+    ensures { out.new ≡ over (new_image count (accepted_plan plan.now) l.now) out.old }
 {
-    let object = plan.object;
-    let roots = plan.roots;
-    let entry = plan.entry;
-    let message = plan.message;
-    let counted = Held::Count(count);
-    let first = put_to(out, 0, l, 0, 0, 0, 0, counted);
-    let begun = Cursor {
-        from: COUNTED,
-        to: first,
-    };
-    let a = put_change(out, l, begun, object);
-    let b = put_change(out, l, a, roots);
-    let c = put_change(out, l, b, entry);
-    let d = put_change(out, l, c, message);
-    let from = d.from;
-    let rest = l.len() - from;
-    copy_part(out, d.to, l, from, rest);
+    let mut c = put_count(out, l, count);
+    for change in plan.changes() {
+        c = put_change(out, l, c, change);
+    }
+    copy_part(out, c.to, &l[c.from..]);
 }
 
 // Where the next change may begin.
-pub(crate) fn place_after(from: usize, change: Change) -> usize
-    ensures { result ≡ passed from change }
+fn place_after(from: usize, change: Option<Replacement>) -> usize
+    ensures { result ≡ passed from (change_of change) }
 {
-    match change {
-        Change::Same => from,
-        Change::To {
-            at: _,
-            after,
-            a: _,
-            b: _,
-            held: _,
-        } => after,
-    }
+    change.map_or(from, |new| new.after)
 }
 
 // The length that a change leaves.
-pub(crate) fn length_with(n: usize, change: Change) -> usize
-    requires { (n ≤ FULL + 2000) × Cuts n change }
-    ensures { result ≡ length_with n change }
+fn length_with(n: usize, change: Option<Replacement>) -> usize
+    requires { (n ≤ FULL + 2000) × Cuts n (change_of change) }
+    ensures { result ≡ length_with n (change_of change) }
 {
     match change {
-        Change::Same => n,
-        Change::To {
-            at,
-            after,
-            a: _,
-            b: _,
-            held,
-        } => n + held.size() - (after - at),
+        None => n,
+        Some(new) => n + new.held.size() - (new.after - new.at),
     }
 }
 
 // How long the new image of an image of n bytes is.
-pub(crate) fn length_after(n: usize, plan: Plan) -> usize
-    requires { (n ≤ FULL) × Orderly 8 (others plan) n }
-    ensures { result ≡ length_after n (others plan) }
+pub(crate) fn length_after(n: usize, plan: &Plan) -> usize
+    requires { (n ≤ FULL) × Orderly 8 (others (accepted_plan plan.now)) n }
+    ensures { result ≡ length_after n (others (accepted_plan plan.now)) }
 {
-    let object = plan.object;
-    let roots = plan.roots;
-    let entry = plan.entry;
-    let message = plan.message;
-    let a = length_with(n, object);
-    let b = length_with(a, roots);
-    let c = length_with(b, entry);
-    length_with(c, message)
+    let mut length = n;
+    for change in plan.changes() {
+        length = length_with(length, change);
+    }
+    length
 }

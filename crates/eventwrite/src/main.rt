@@ -2,65 +2,69 @@
 // standard error, and nothing is written to standard output.
 #![tactic(auto)]
 
+ghost use Rattle.std.specs.Prelude.{◌≤◌, IfOk};
+
 use input::read_full;
-use scenario::Written;
+use scenario::{Unwritten, write_events};
+use std::fmt;
 use std::io::{self, Read};
-
-fn say_bad_line(rt: &impl Eprint, line: usize) -> io::Result<()> {
-    eprintln!(rt; "line {line}: expected five numbers, kind 0..65535 and operands 0..255")
-}
-
-fn say_too_many(rt: &impl Eprint) -> io::Result<()> {
-    eprintln!(rt; "too many events")
-}
-
-fn say_not_written(rt: &impl Eprint) -> io::Result<()> {
-    eprintln!(rt; "standard output: not all was written")
-}
-
-fn say_too_long(rt: &impl Eprint) -> io::Result<()> {
-    eprintln!(rt; "standard input: more than {TEXT} bytes")
-}
-
-fn say_not_read(rt: &impl Eprint) -> io::Result<()> {
-    eprintln!(rt; "standard input: not read to its end")
-}
-
-// Writes the records of text, by way of out, or says why there are none.
-#[tactic(auto, using(scenario::specs::RecordLaws::written_fits))]
-fn answer(rt: &(impl Print + Eprint), text: &[u8], out: &mut [u8]) -> io::Result<()> {
-    let written = scenario::write_events(text, out);
-    let length = written.length;
-    let line = written.line;
-    if line != 0 {
-        return say_bad_line(rt, line);
-    }
-    if written.answer != Written::ACCEPTED {
-        return say_too_many(rt);
-    }
-    if rt.write_all(&out[..length]).is_err() {
-        return say_not_written(rt);
-    }
-    Ok(())
-}
 
 // The most bytes of text that are taken; by one more it is seen that there are too many.
 const TEXT: usize = 65536;
 
-fn main(rt: HostRuntime) -> io::Result<()> {
-    let mut reader = rt.reader();
-    let mut text = [0u8; TEXT];
-    let Ok(n) = read_full(&mut reader, &mut text) else {
-        return say_not_read(&rt);
-    };
-    let mut more = [0u8; 1];
-    // 0: the input has ended
-    if !matches!(reader.read(&mut more), Ok(0)) {
-        if n < TEXT {
-            return say_not_read(&rt);
+// Why the records of a scenario are not written, or not all of them.
+#[derive(Clone, Copy, Debug, PartialEq, Eq)]
+enum Failure {
+    NotRead,
+    TooLong,
+    Unwritten(Unwritten),
+    NotWritten,
+}
+
+impl fmt::Display for Failure {
+    fn fmt<W: fmt::Write>(&self, f: &mut fmt::Formatter<W>) -> fmt::Result {
+        match self {
+            Failure::NotRead => write!(f, "standard input: not read to its end"),
+            Failure::TooLong => write!(f, "standard input: more than {TEXT} bytes"),
+            Failure::Unwritten(why) => write!(f, "{why}"),
+            Failure::NotWritten => write!(f, "standard output: not all was written"),
         }
-        return say_too_long(&rt);
     }
+}
+
+impl From<Unwritten> for Failure {
+    fn from(why: Unwritten) -> Failure {
+        Failure::Unwritten(why)
+    }
+}
+
+// Puts the whole input at the front of text, and tells how long it is.
+fn read_text(input: &mut impl Read, text: &mut [u8; TEXT]) -> Result<usize, Failure>
+    ensures { IfOk result (λ n. n ≤ TEXT) }
+{
+    let n = read_full(input, text).map_err(|_| Failure::NotRead)?;
+    let mut more = [0u8; 1];
+    match input.read(&mut more) {
+        // The input has ended.
+        Ok(0) => Ok(n),
+        _ if n < TEXT => Err(Failure::NotRead),
+        _ => Err(Failure::TooLong),
+    }
+}
+
+#[tactic(auto, using(scenario::specs::RecordLaws::written_fits))]
+fn run(rt: &(impl Input + Print)) -> Result<(), Failure> {
+    let mut text = [0u8; TEXT];
+    let n = read_text(&mut rt.reader(), &mut text)?;
     let mut out = [0u8; TEXT];
-    answer(&rt, &text[..n], &mut out)
+    let length = write_events(&text[..n], &mut out)?;
+    rt.write_all(&out[..length])
+        .map_err(|_| Failure::NotWritten)
+}
+
+fn main(rt: HostRuntime) -> io::Result<()> {
+    match run(&rt) {
+        Ok(()) => Ok(()),
+        Err(failure) => eprintln!(rt; "{failure}"),
+    }
 }

@@ -11,7 +11,8 @@ fn main(rt: HostRuntime) -> io::Result<()> {
     let mut records = [0u8; INPUT];
     let got = read_full(&mut rt.reader(), &mut records)?;
     let mut out = [0u8; run::TEXT];
-    let told = run::run(&records[..got], &mut out);
-    let length = told.length;
-    rt.write_all(&out[..length])
+    let Ok(told) = run::run(&records[..got], &mut out) else {
+        unreachable!()
+    };
+    rt.write_all(&out[..told.length])
 }

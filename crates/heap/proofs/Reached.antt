@@ -2,7 +2,7 @@
 -- hold, and why as many rounds as the scope has objects are enough. For code that walks in another order: `walked_only`. Assumes nothing.
 use Rattle.std.specs.Prelude.{◌≡◌, Bool, true, false, not, List, [], ◌∷◌, ◌++◌, ◌↔◌, ◌⊎◌, get_or, set, replicate, if◌then◌else◌}
 use Rattle.std.proofs.Math.Path.{refl}
-use Rattle.std.proofs.Common.{sym, ap, ◌∙◌, true≢false, inl, inr, arith, length-set, ext_get_or}
+use Rattle.std.proofs.Common.{add-one, sym, ap, ◌∙◌, true≢false, inl, inr, arith, length-set, ext_get_or}
 use Rattle.std.proofs.lemmas.Bool.{false≢true}
 use Rattle.std.proofs.Math.Logic.Iff
 use Rattle.std.proofs.Math.Logic.{⊎_elim}
@@ -13,7 +13,7 @@ use Rattle.terms.specs.Choose.{◌and◌}
 use Rattle.terms.proofs.ChooseLaws.{and_passes}
 use Rattle.terms.specs.Counted.{holds, how_many, list, list_from, gather_from}
 use Rattle.terms.specs.CountedLaws.{Some}
-use Rattle.terms.proofs.CountedLaws.{list_from_first, gather_from_first, how_many_le, how_many_lt, how_many_none}
+use Rattle.terms.proofs.CountedLaws.{list_from_first, list_last, gather_from_first, how_many_le, how_many_lt, how_many_none}
 use Rattle.terms.specs.Limits.{OBJECTS, FIELDS}
 use Rattle.terms.proofs.ListLaws.{length_list, get_or-list, holds_first, holds-gather, holds-list}
 use Rattle.heap.specs.declared.Heap.{Heap}
@@ -133,6 +133,11 @@ pub mark_append : (scope : Scope) (m : Marks) (xs ys : List ℕ) → mark scope 
 unfolding mark
 mark_append scope m [] ys = refl
 mark_append scope m (x ∷ xs) ys = mark_append scope (marking scope m x) xs ys
+
+-- f 0, f 1, up to below i are marked, and then f i
+pub mark-last : (m : Marks) (f : ℕ → ℕ) (i : ℕ) {n r : Marks} → n ≡ mark everywhere m (list i f) → r ≡ set n (f i) true → r ≡ mark everywhere m (list (i + 1) f)
+unfolding mark
+mark-last m f i before now = rw (add-one, list_last i f, mark_append everywhere m (list i f) (f i ∷ []), ← before) now
 
 -- f i is marked, and then those after it
 pub mark_next : {i n : ℕ} (m : Marks) (f : ℕ → ℕ) → i < n

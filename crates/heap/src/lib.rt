@@ -3,9 +3,9 @@
 
 mod walk; // walk.rt: what is reached, and what is held
 
-ghost use Rattle.std.specs.Prelude.{◌≡◌, get_or, length};
-ghost use Rattle.terms.specs.Counted.{every};
-ghost use Rattle.terms.specs.Limits.{NODES, OBJECTS};
+ghost use Rattle.std.specs.Prelude.{◌≡◌, ◌<◌, get_or, IfSome};
+ghost use Rattle.std.specs.Option.{unwrap_or};
+ghost use Rattle.terms.specs.Limits.{OWNED};
 ghost use Rattle.heap.specs.Heap.{idle, born, fresh_heap, object_at, is_live, field_at, roots_at, root_at, with_object, with_field, with_root, free_own};
 ghost use Rattle.heap.specs.Heap.{with_root_in, with_field_in};
 ghost use Rattle.heap.specs.Heap.{fits_name, fits_field, fits_object, fits_roots, fits_heap};
@@ -53,160 +53,100 @@ impl Heap {
     pub fn fresh() -> Heap
         ensures { result ≡ fresh_heap }
     {
-        let object = Object::idle();
-        let objects = [object; 64];
         let node = Roots {
             at: [Heap::NONE; 8],
         };
-        let roots = [node; 8];
         Heap {
-            objects: objects,
-            roots: roots,
+            objects: [Object::idle(); 64],
+            roots: [node; 8],
         }
     }
 
     // Past the last object none is live.
-    pub fn is_live(self, o: u8) -> bool
-        ensures { result ≡ is_live self o }
+    pub fn is_live(&self, o: u8) -> bool
+        ensures { result ≡ is_live self.now o }
     {
-        if Heap::OBJECTS <= o {
-            return false;
-        }
-        let i = o as usize;
-        let object = self.objects[i];
-        object.live
+        self.objects
+            .get(usize::from(o))
+            .is_some_and(|object| object.live)
     }
 
     // 0 where there is no such field.
-    pub fn field(self, o: u8, f: u8) -> u8
-        ensures { result ≡ field_at self o f }
+    pub fn field(&self, o: u8, f: u8) -> u8
+        ensures { result ≡ field_at self.now o f }
     {
-        if Heap::OBJECTS <= o {
-            return 0;
-        }
-        let i = o as usize;
-        let object = self.objects[i];
-        object.field(f)
+        self.objects
+            .get(usize::from(o))
+            .map_or(0, |object| object.field(f))
     }
 
     // 0 where there is no such root.
-    pub fn root(self, p: u8, r: u8) -> u8
-        ensures { result ≡ root_at self p r }
+    pub fn root(&self, p: u8, r: u8) -> u8
+        ensures { result ≡ root_at self.now p r }
     {
-        if Heap::NODES <= p {
-            return 0;
-        }
-        let i = p as usize;
-        let roots = self.roots[i];
-        roots.root(r)
+        self.roots
+            .get(usize::from(p))
+            .map_or(0, |roots| roots.root(r))
     }
 
-    // The heap with object o just made; as it was where there is no such object.
-    pub fn with_born(mut self, o: u8) -> Heap
-        ensures { result ≡ with_object self o born }
+    // As it was where there is no such object.
+    fn set_object(&mut self, o: u8, object: Object)
+        ensures { self.new ≡ with_object self.old o object }
     {
-        if Heap::OBJECTS <= o {
-            return self;
+        if o < Heap::OBJECTS {
+            self.objects[usize::from(o)] = object;
         }
-        let i = o as usize;
-        self.objects[i] = Object::born();
-        self
     }
 
-    // The heap with object o reclaimed, its fields empty.
-    pub fn with_idle(mut self, o: u8) -> Heap
-        ensures { result ≡ with_object self o idle }
+    // Object o has just been made. As it was where there is no such object.
+    pub fn set_born(&mut self, o: u8)
+        ensures { self.new ≡ with_object self.old o born }
     {
-        if Heap::OBJECTS <= o {
-            return self;
-        }
-        let i = o as usize;
-        self.objects[i] = Object::idle();
-        self
+        self.set_object(o, Object::born());
     }
 
-    pub fn with_field(mut self, o: u8, f: u8, x: u8) -> Heap
-        ensures { result ≡ with_field self o f x }
+    // Object o is reclaimed, its fields empty. As it was where there is no such object.
+    pub fn set_idle(&mut self, o: u8)
+        ensures { self.new ≡ with_object self.old o idle }
     {
-        if Heap::OBJECTS <= o {
-            return self;
-        }
-        let i = o as usize;
-        let object = self.objects[i];
-        self.objects[i] = object.with_field(f, x);
-        self
+        self.set_object(o, Object::idle());
     }
 
-    pub fn with_root(mut self, p: u8, r: u8, x: u8) -> Heap
-        ensures { result ≡ with_root self p r x }
+    // As it was where there is no such field.
+    pub fn set_field(&mut self, o: u8, f: u8, x: u8)
+        ensures { self.new ≡ with_field self.old o f x }
     {
-        if Heap::NODES <= p {
-            return self;
+        if o < Heap::OBJECTS {
+            self.objects[usize::from(o)].set_field(f, x);
         }
-        let i = p as usize;
-        let roots = self.roots[i];
-        self.roots[i] = roots.with_root(r, x);
-        self
     }
 
-    // The lowest object of the node that isn't live, counted from 0 among its own; as many as it owns where all are live.
-    pub fn free_own(self, p: u8) -> u8
-        ensures { result ≡ free_own self p }
+    // As it was where there is no such root.
+    pub fn set_root(&mut self, p: u8, r: u8, x: u8)
+        ensures { self.new ≡ with_root self.old p r x }
     {
-        if Heap::NODES <= p {
-            return 0;
+        if p < Heap::NODES {
+            self.roots[usize::from(p)].set_root(r, x);
         }
-        let mut free: u8 = 0;
-        while free < Heap::OWNED {
-            let o = Heap::OWNED * p + free;
-            if !self.is_live(o) {
-                return free;
-            }
-            free += 1;
-        }
-        free
     }
 
-    #[tactic(auto, unfolding(crate::specs::Heap::fits_object))]
-    fn objects_fit(self) -> bool
-        ensures { result ≡ every OBJECTS (λ o. fits_object (object_at self o)) }
+    // The lowest object of the node that isn't live, counted from 0 among its own; none where all are live.
+    // Past the last node no object is live, so that 0 is the lowest there.
+    pub fn free_own(&self, p: u8) -> Option<u8>
+        ensures lowest { unwrap_or result OWNED ≡ free_own self.now p }
+        ensures owned { IfSome result (λ k. k < OWNED) }
     {
-        let mut o: u8 = 0;
-        while o < Heap::OBJECTS {
-            let i = o as usize;
-            let object = self.objects[i];
-            if !object.fits() {
-                return false;
-            }
-            o += 1;
+        if p < Heap::NODES {
+            (0..Heap::OWNED).find(|&k| !self.is_live(Heap::OWNED * p + k))
+        } else {
+            Some(0)
         }
-        true
     }
 
-    #[tactic(auto, unfolding(crate::specs::Heap::fits_roots))]
-    fn roots_fit(self) -> bool
-        ensures { result ≡ every NODES (λ p. fits_roots (roots_at self p)) }
+    pub fn fits(&self) -> bool
+        ensures { result ≡ fits_heap self.now }
     {
-        let mut p: u8 = 0;
-        while p < Heap::NODES {
-            let i = p as usize;
-            let roots = self.roots[i];
-            if !roots.fits() {
-                return false;
-            }
-            p += 1;
-        }
-        true
-    }
-
-    #[tactic(auto, unfolding(crate::specs::Heap::fits_heap))]
-    pub fn fits(self) -> bool
-        ensures { result ≡ fits_heap self }
-    {
-        if !self.objects_fit() {
-            return false;
-        }
-        self.roots_fit()
+        self.objects.iter().all(Object::fits) && self.roots.iter().all(Roots::fits)
     }
 }
 
@@ -214,35 +154,14 @@ impl Heap {
 pub fn fits_name(x: u8) -> bool
     ensures { result ≡ fits_name x }
 {
-    if x < Heap::OBJECTS {
-        return true;
-    }
-    x == Heap::NONE
+    x < Heap::OBJECTS || x == Heap::NONE
 }
 
 // A field of an object; of one that isn't live it is empty.
 fn fits_field(live: bool, x: u8) -> bool
     ensures { result ≡ fits_field live x }
 {
-    if live {
-        return fits_name(x);
-    }
-    x == Heap::NONE
-}
-
-// All fields of an object; a node's roots are as those of a live one.
-fn all_fit(live: bool, names: &[u8]) -> bool
-    ensures { result ≡ every (length names.now) (λ k. fits_field live (get_or names.now k 0)) }
-{
-    let mut i: usize = 0;
-    while i < names.len() {
-        let x = names[i];
-        if !fits_field(live, x) {
-            return false;
-        }
-        i += 1;
-    }
-    true
+    if live { fits_name(x) } else { x == Heap::NONE }
 }
 
 impl Object {
@@ -250,10 +169,9 @@ impl Object {
     fn idle() -> Object
         ensures { result ≡ idle }
     {
-        let fields = [Heap::NONE; 4];
         Object {
             live: false,
-            fields: fields,
+            fields: [Heap::NONE; 4],
         }
     }
 
@@ -261,73 +179,55 @@ impl Object {
     pub fn born() -> Object
         ensures { result ≡ born }
     {
-        let fields = [Heap::NONE; 4];
         Object {
             live: true,
-            fields: fields,
+            fields: [Heap::NONE; 4],
         }
     }
 
     // 0 where there is no such field.
-    pub fn field(self, f: u8) -> u8
-        ensures { result ≡ get_or self.fields f 0 }
+    pub fn field(&self, f: u8) -> u8
+        ensures { result ≡ get_or self.now.fields f 0 }
     {
-        if Heap::FIELDS <= f {
-            return 0;
-        }
-        let i = f as usize;
-        self.fields[i]
+        self.fields.get(usize::from(f)).copied().unwrap_or(0)
     }
 
     // As it was where there is no such field.
-    pub fn with_field(mut self, f: u8, x: u8) -> Object
-        ensures { result ≡ with_field_in self f x }
+    pub fn set_field(&mut self, f: u8, x: u8)
+        ensures { self.new ≡ with_field_in self.old f x }
     {
-        if Heap::FIELDS <= f {
-            return self;
+        if f < Heap::FIELDS {
+            self.fields[usize::from(f)] = x;
         }
-        let i = f as usize;
-        self.fields[i] = x;
-        self
     }
 
-    #[tactic(auto, unfolding(crate::specs::Heap::fits_object))]
-    pub fn fits(self) -> bool
-        ensures { result ≡ fits_object self }
+    pub fn fits(&self) -> bool
+        ensures { result ≡ fits_object self.now }
     {
-        let live = self.live;
-        all_fit(live, &self.fields)
+        self.fields.iter().all(|&x| fits_field(self.live, x))
     }
 }
 
 impl Roots {
     // 0 where there is no such root.
-    pub fn root(self, r: u8) -> u8
-        ensures { result ≡ get_or self.at r 0 }
+    pub fn root(&self, r: u8) -> u8
+        ensures { result ≡ get_or self.now.at r 0 }
     {
-        if Heap::ROOTS <= r {
-            return 0;
-        }
-        let i = r as usize;
-        self.at[i]
+        self.at.get(usize::from(r)).copied().unwrap_or(0)
     }
 
     // As they were where there is no such root.
-    pub fn with_root(mut self, r: u8, x: u8) -> Roots
-        ensures { result ≡ with_root_in self r x }
+    pub fn set_root(&mut self, r: u8, x: u8)
+        ensures { self.new ≡ with_root_in self.old r x }
     {
-        if Heap::ROOTS <= r {
-            return self;
+        if r < Heap::ROOTS {
+            self.at[usize::from(r)] = x;
         }
-        let i = r as usize;
-        self.at[i] = x;
-        self
     }
 
-    #[tactic(auto, unfolding(crate::specs::Heap::fits_roots))]
-    pub fn fits(self) -> bool
-        ensures { result ≡ fits_roots self }
+    pub fn fits(&self) -> bool
+        ensures { result ≡ fits_roots self.now }
     {
-        all_fit(true, &self.at)
+        self.at.iter().all(|&x| fits_name(x))
     }
 }

@@ -15,143 +15,105 @@ impl Marks {
         Marks { seen: [false; 64] }
     }
 
-    fn with_mark(mut self, x: u8) -> Marks
-        ensures { result.seen ≡ set self.seen x true }
+    fn set_mark(&mut self, x: u8)
+        ensures { self.new.seen ≡ set self.old.seen x true }
     {
-        if Heap::OBJECTS <= x {
-            return self;
+        if x < Heap::OBJECTS {
+            self.seen[usize::from(x)] = true;
         }
-        let i = x as usize;
-        self.seen[i] = true;
-        self
     }
 }
 
 // Marks o and what is reached from it, on p only, through objects that aren't marked yet.
 #[cycle(visit_field_visit_object)]
-fn visit_object(heap: Heap, p: u8, marks: Marks, o: u8) -> Marks
+fn visit_object(heap: &Heap, p: u8, marks: &mut Marks, o: u8)
     requires { p < NODES }
-    ensures { Visited heap (owned_by p) (o ∷ []) marks.seen result.seen }
+    ensures { Visited heap.now (owned_by p) (o ∷ []) marks.old.seen marks.new.seen }
 {
-    if o / Heap::OWNED != p {
-        return marks;
+    let i = usize::from(o);
+    if o / Heap::OWNED == p && !marks.seen[i] {
+        marks.seen[i] = true;
+        visit_field(heap, p, marks, o, 0);
     }
-    let i = o as usize;
-    if marks.seen[i] {
-        return marks;
-    }
-    let mut more = marks;
-    more.seen[i] = true;
-    visit_field(heap, p, more, o, 0)
 }
 
 // Marks what is reached so from the fields of o, field f and those after it.
 #[cycle(visit_field_visit_object)]
-#[tactic(auto, unfolding(terms::specs::Counted::list_from))]
-fn visit_field(heap: Heap, p: u8, marks: Marks, o: u8, f: u8) -> Marks
+fn visit_field(heap: &Heap, p: u8, marks: &mut Marks, o: u8, f: u8)
     requires { p < NODES }
-    ensures { Visited heap (owned_by p) (list_from f (FIELDS - f) (field_at heap o)) marks.seen result.seen }
+    ensures { Visited heap.now (owned_by p) (list_from f (FIELDS - f) (field_at heap.now o)) marks.old.seen marks.new.seen }
 {
-    if Heap::FIELDS <= f {
-        return marks;
+    if f < Heap::FIELDS {
+        visit_object(heap, p, marks, heap.field(o, f));
+        visit_field(heap, p, marks, o, f + 1);
     }
-    let x = heap.field(o, f);
-    let more = visit_object(heap, p, marks, x);
-    visit_field(heap, p, more, o, f + 1)
 }
 
 impl Heap {
-    fn visit_roots(self, p: u8) -> Marks
+    #[tactic(auto, unfolding(terms::specs::Counted::list_from))]
+    fn visit_roots(&self, p: u8, marks: &mut Marks)
         requires { p < NODES }
-        ensures { Visited self (owned_by p) (roots_of self p) unmarked result.seen }
+        ensures { Visited self.now (owned_by p) (roots_of self.now p) marks.old.seen marks.new.seen }
     {
-        let mut marks = Marks::unmarked();
-        let mut r: u8 = 0;
-        while r < Heap::ROOTS {
-            let x = self.root(p, r);
-            marks = visit_object(self, p, marks, x);
-            r += 1;
+        for r in 0..Heap::ROOTS {
+            visit_object(self, p, marks, self.root(p, r));
         }
-        marks
     }
 
     #[tactic(auto, unfolding(crate::specs::Walk::pointed))]
-    fn visit_pointed(self, p: u8, marks: Marks, tests: [bool; 8]) -> Marks
+    fn visit_pointed(&self, p: u8, tests: [bool; 8], marks: &mut Marks)
         requires { p < NODES }
-        ensures { Visited self (owned_by p) (pointed p tests) marks.seen result.seen }
+        ensures { Visited self.now (owned_by p) (pointed p tests) marks.old.seen marks.new.seen }
     {
-        let mut more = marks;
-        let mut k: u8 = 0;
-        while k < Heap::OWNED {
-            let i = k as usize;
-            if tests[i] {
-                let o = Heap::OWNED * p + k;
-                more = visit_object(self, p, more, o);
+        for k in 0..Heap::OWNED {
+            if tests[usize::from(k)] {
+                visit_object(self, p, marks, Heap::OWNED * p + k);
             }
-            k += 1;
         }
-        more
     }
 
     // What is reached, on p only, from its roots and from the objects of its own that `counted` points at.
-    #[tactic(auto, unfolding(crate::specs::Walk::pointed, crate::specs::Walk::reached))]
-    pub fn reached(self, p: u8, counted: [bool; 8]) -> Marks
-        ensures { result.seen ≡ reached self (owned_by p) (roots_of self p ++ pointed p counted) }
-    {
-        if Heap::NODES <= p {
-            return Marks::unmarked();
-        }
-        let marks = self.visit_roots(p);
-        self.visit_pointed(p, marks, counted)
-    }
-
-    fn mark_roots(self, p: u8) -> Marks
-        ensures { result.seen ≡ mark everywhere unmarked (roots_of self p) }
+    pub fn reached(&self, p: u8, counted: [bool; 8]) -> Marks
+        ensures { result.seen ≡ reached self.now (owned_by p) (roots_of self.now p ++ pointed p counted) }
     {
         let mut marks = Marks::unmarked();
-        let mut r: u8 = 0;
-        while r < Heap::ROOTS {
-            let x = self.root(p, r);
-            marks = marks.with_mark(x);
-            r += 1;
+        if p < Heap::NODES {
+            self.visit_roots(p, &mut marks);
+            self.visit_pointed(p, counted, &mut marks);
         }
         marks
     }
 
-    fn mark_fields(self, marks: Marks, o: u8) -> Marks
-        ensures { result.seen ≡ mark everywhere marks.seen (fields_of self o) }
+    #[tactic(auto, unfolding(terms::specs::Counted::list_from, crate::specs::Walk::mark))]
+    fn mark_fields(&self, o: u8, marks: &mut Marks)
+        ensures { marks.new.seen ≡ mark everywhere marks.old.seen (fields_of self.now o) }
     {
-        let mut more = marks;
-        let mut f: u8 = 0;
-        while f < Heap::FIELDS {
-            let x = self.field(o, f);
-            more = more.with_mark(x);
-            f += 1;
+        for f in 0..Heap::FIELDS {
+            marks.set_mark(self.field(o, f));
         }
-        more
     }
 
-    fn mark_held(self, marks: Marks, holders: Marks) -> Marks
-        ensures { result.seen ≡ mark everywhere marks.seen (held_by self holders.seen) }
+    #[tactic(auto, unfolding(terms::specs::Counted::gather_from, crate::specs::Walk::mark))]
+    fn mark_held(&self, holders: &Marks, marks: &mut Marks)
+        ensures { marks.new.seen ≡ mark everywhere marks.old.seen (held_by self.now holders.now.seen) }
     {
-        let mut more = marks;
-        let mut o: u8 = 0;
-        while o < Heap::OBJECTS {
-            let i = o as usize;
-            if holders.seen[i] {
-                more = self.mark_fields(more, o);
+        for o in 0..Heap::OBJECTS {
+            if holders.seen[usize::from(o)] {
+                self.mark_fields(o, marks);
             }
-            o += 1;
         }
-        more
     }
 
     // For each object, whether a root of p or a marked object holds it.
-    #[tactic(auto, unfolding(terms::specs::Counted::holds, crate::specs::Walk::held_by))]
-    pub fn held(self, p: u8, marks: Marks) -> Marks
-        ensures { result.seen ≡ list OBJECTS (holds (roots_of self p ++ held_by self marks.seen)) }
+    #[tactic(auto, unfolding(terms::specs::Counted::list_from, crate::specs::Walk::mark))]
+    pub fn held(&self, p: u8, marks: &Marks) -> Marks
+        ensures { result.seen ≡ list OBJECTS (holds (roots_of self.now p ++ held_by self.now marks.now.seen)) }
     {
-        let roots = self.mark_roots(p);
-        self.mark_held(roots, marks)
+        let mut held = Marks::unmarked();
+        for r in 0..Heap::ROOTS {
+            held.set_mark(self.root(p, r));
+        }
+        self.mark_held(marks, &mut held);
+        held
     }
 }

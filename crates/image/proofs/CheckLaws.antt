@@ -6,7 +6,7 @@ use Rattle.terms.specs.Choose.{Refusal, answered}
 use Rattle.terms.specs.Numbers.{ACCEPTED}
 use Rattle.table.specs.declared.Table.{Table}
 use Rattle.table.specs.Table.{fresh_table}
-use Rattle.image.specs.declared.Loaded.{Loaded}
+use Rattle.image.specs.Reader.{Loaded}
 use Rattle.image.specs.declared.RecordKind.{RecordKind}
 use Rattle.image.specs.declared.Turn.{Turn}
 use Rattle.image.specs.Check.{front_answer, check_from, check}

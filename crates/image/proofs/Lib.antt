@@ -2,6 +2,7 @@ pub mod BytesLaws
 pub mod CellLaws
 pub mod CheckLaws
 pub mod ContentLaws
+pub mod HandedBack
 pub mod Keeps
 pub mod OneSpot
 pub mod ReadLaws

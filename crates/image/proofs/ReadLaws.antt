@@ -5,13 +5,13 @@ use Rattle.std.proofs.Common.{sym, ap, subst, ◌∙◌, true≢false, append_as
 use Rattle.std.proofs.Math.Bool.{true}
 use Rattle.std.proofs.lemmas.Bool.{false≢true}
 use Rattle.std.proofs.Math.Dec.{eqb}
-use borrow.Author.Tests.{le-ltb, ltb-false, eqb-true, not-false}
+use borrow.Author.Tests.{le-ltb, eq-eqb, ltb-false, eqb-true, not-false}
 use Rattle.terms.specs.Choose.{Refusal, ◌and◌, answered}
 use Rattle.terms.specs.Bytes.{bytes_of, number_of, packed}
 use Rattle.terms.proofs.ChooseLaws.{either_way}
 use Rattle.terms.specs.Numbers.{ACCEPTED}
 use Rattle.table.specs.declared.Table.{Table}
-use Rattle.image.specs.declared.Loaded.{Loaded}
+use Rattle.image.specs.Reader.{Loaded}
 use Rattle.image.specs.declared.RecordKind.{RecordKind}
 use Rattle.image.specs.declared.RecordKind.TheVariants.{Count, Live, NodeRoots, Directory, Remote, Reference, Decrement, End, Unknown}
 use Rattle.image.specs.declared.Turn.{Turn}
@@ -81,11 +81,8 @@ module _ (k : RecordKind) (ns rest : List ℕ) (fit : Fit (widths_of k) ns) wher
         stated_length_lem k ns rest,
         le-ltb (length (front k ns rest)) HEAD (omega (arith, front_length)),
         le-ltb (length (front k ns rest)) (HEAD + length_of k) (omega (arith, front_length)),
-        eqb_same (length_of k),
+        eq-eqb (length_of k) (length_of k) refl,
       )))
-    where
-      eqb_same : (n : ℕ) → eqb n n ≡ true
-      eqb_same n = borrow.Author.Tests.eq-eqb n n refl
 
 -- ---- reading records
 

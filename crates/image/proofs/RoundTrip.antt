@@ -9,7 +9,7 @@ use Rattle.table.specs.Fresh.{fresh_good}
 use Rattle.table.specs.Good.{Good, good_formed, good_shape}
 use Rattle.table.specs.Shape.{fits_table}
 use Rattle.table.specs.Table.{fresh_table}
-use Rattle.image.specs.declared.Loaded.{Loaded}
+use Rattle.image.specs.Reader.{Loaded}
 use Rattle.image.specs.BytesLaws.{AreBytes}
 use Rattle.image.specs.Order.{first_turn}
 use Rattle.image.specs.Reader.{read}

@@ -10,16 +10,12 @@ use Rattle.heap.specs.Heap.{idle}
 use Rattle.table.specs.declared.Message.{Message}
 use Rattle.table.specs.declared.Message.TheVariants as m
 use Rattle.image.specs.declared.Found.{Found}
-use Rattle.image.specs.declared.Frame.{Frame}
-use Rattle.image.specs.declared.Frame.TheVariants.{Refused, Whole}
 use Rattle.image.specs.declared.Held.{Held}
 use Rattle.image.specs.declared.Held.TheVariants as h
-use Rattle.image.specs.declared.ObjectParts.{ObjectParts}
 use Rattle.image.specs.declared.RecordKind.{RecordKind}
 use Rattle.image.specs.declared.RecordKind.TheVariants.{Count, Live, NodeRoots, Directory, Remote, Reference, Decrement, End, Unknown}
-use Rattle.image.specs.declared.RootParts.{RootParts}
 use Rattle.image.specs.Content.{number, live_object, roots_of_node, directory_entry, remote_entry, reference_message, decrement_message}
-use Rattle.image.specs.Front.{frame_of}
+use Rattle.image.specs.Front.{Frame, Refused, Whole, frame_of}
 use Rattle.image.specs.Order.{position_of}
 use Rattle.image.specs.Reader.{payload}
 use Rattle.image.specs.Records.{Record, row, HEAD, length_of}
@@ -83,23 +79,19 @@ seen n l = front_at n (drop (offset n l) l)
 
 -- ---- what it tells
 
--- an object and a node's roots as they are held, one by one
+-- an object and a node's roots as they are held
 abbrev pub of_object : Object → Held
-of_object x =
-    let f : ℕ → ℕ = λ k. get_or x.fields k 0 in
-    h.Object (record { live = x.live; f0 = f 0; f1 = f 1; f2 = f 2; f3 = f 3 })
+of_object x = h.Object x
 
 abbrev pub of_roots : Roots → Held
-of_roots x =
-    let r : ℕ → ℕ = λ k. get_or x.at k 0 in
-    h.Roots (record { r0 = r 0; r1 = r 1; r2 = r 2; r3 = r 3; r4 = r 4; r5 = r 5; r6 = r 6; r7 = r 7 })
+of_roots x = h.Roots x
 
 -- and back
-abbrev pub whole_object : ObjectParts → Object
-whole_object x = record { live = x.live; fields = x.f0 ∷ x.f1 ∷ x.f2 ∷ x.f3 ∷ [] }
+abbrev pub whole_object : Object → Object
+whole_object x = x
 
-abbrev pub whole_roots : RootParts → Roots
-whole_roots x = record { at = x.r0 ∷ x.r1 ∷ x.r2 ∷ x.r3 ∷ x.r4 ∷ x.r5 ∷ x.r6 ∷ x.r7 ∷ [] }
+abbrev pub whole_roots : Roots → Roots
+whole_roots x = x
 
 abbrev pub held_in : RecordKind → List ℕ → Held
 held_in Count ns = h.Count (number ns 0)

@@ -1,14 +1,14 @@
 -- The reader's work on the record at the front of the bytes, in three layers (document 01, "Reader"): its frame, its turn, its numbers.
 -- None of them looks at the table. The proofs have that together they are what Reader.antt says. Definitions only; assumes nothing.
-use Rattle.std.specs.Prelude.{Bool, List, ℕ, ◌+◌, ltb, length}
+use Rattle.std.specs.Prelude.{Bool, List, ℕ, ◌+◌, ltb, length, Result, Ok, Err}
 use Rattle.terms.specs.Choose.{◌and◌, answered}
 use Rattle.terms.specs.Limits.{owner}
 use Rattle.terms.specs.Numbers.{ACCEPTED}
+use Rattle.terms.specs.Refusals.{number_of}
+use Rattle.terms.specs.declared.Refusal.{Refusal}
 use Rattle.table.specs.declared.Cell.{Cell}
 use Rattle.table.specs.Table.{cell_with}
-use Rattle.image.specs.declared.Frame.{Frame}
-use Rattle.image.specs.declared.Frame.TheVariants.{Refused, Whole}
-use Rattle.image.specs.declared.Front.{Front}
+use Rattle.image.specs.declared.Front as taken
 use Rattle.image.specs.declared.RecordKind.{RecordKind}
 use Rattle.image.specs.declared.RecordKind.TheVariants.{Count, Live, NodeRoots, Directory, Remote, Reference, Decrement, End, Unknown}
 use Rattle.image.specs.declared.Spot.{Spot}
@@ -19,6 +19,16 @@ use Rattle.image.specs.Reader.{stated_kind, payload, rest_after, frame_refusals,
 use Rattle.image.specs.Records.{HEAD, is_end, length_of}
 
 -- ---- the frame
+
+-- what is known of a record by its frame: a refusal's number, or its kind
+pub data Frame : Type 0 where
+  Refused : ℕ → Frame
+  Whole : RecordKind → Frame
+
+-- as the code hands it back
+abbrev pub frame_of_result : Result RecordKind Refusal → Frame
+frame_of_result (Ok k) = Whole k
+frame_of_result (Err r) = Refused (number_of r)
 
 -- refused, or whole and of this kind
 unfoldable pub frame_of : List ℕ → Frame
@@ -57,6 +67,15 @@ trails k l = is_end k and ltb 0 (length (rest_after k l))
 
 -- ---- all three
 
+-- the record at the front of the bytes: 0 and its kind, or the refusal's number and no kind; the number of the thing that it is about, what may
+-- come after it, and how many bytes it has
+pub record Front : Type 0 where
+  pub answer : ℕ
+  pub kind : RecordKind
+  pub key : ℕ
+  pub next : Turn
+  pub length : ℕ
+
 -- refused: nothing is passed over
 abbrev pub no_front : ℕ → Front
 no_front number = record { answer = number; kind = Unknown; key = 0; next = first_turn; length = 0 }
@@ -68,6 +87,11 @@ good_front k ns = record { answer = ACCEPTED; kind = k; key = key_of k ns; next 
 -- a record whose frame is in order
 unfoldable pub whole_of : Turn → RecordKind → List ℕ → Front
 whole_of now k l = answered no_front (content_refusals now k (payload k l) (rest_after k l)) (good_front k (payload k l))
+
+-- as the code hands it back
+abbrev pub front_of_result : Result taken.Front Refusal → Front
+front_of_result (Ok f) = record { answer = ACCEPTED; kind = f.kind; key = f.key; next = f.next; length = f.length }
+front_of_result (Err r) = no_front (number_of r)
 
 abbrev pub after_frame : Turn → List ℕ → Frame → Front
 after_frame now l (Refused number) = no_front number

@@ -2,9 +2,10 @@
 use Rattle.std.specs.Prelude.{not, List, [], ◌∷◌, ◌++◌, ℕ, zero, suc, ◌+◌, ltb, eqb, length, take, drop, if◌then◌else◌}
 use Rattle.terms.specs.Choose.{Refusal, ◌when◌, ◌and◌, answered}
 use Rattle.terms.specs.Numbers.{ACCEPTED, SHORT, KIND, LENGTH, ORDER, VALUE, TRAIL}
+use Rattle.terms.specs.Refusals.{refusal_number}
 use Rattle.table.specs.declared.Table.{Table}
 use Rattle.table.specs.Table.{fresh_table}
-use Rattle.image.specs.declared.Loaded.{Loaded}
+use Rattle.image.specs.declared.Loaded as kept
 use Rattle.image.specs.declared.RecordKind.{RecordKind}
 use Rattle.image.specs.declared.Turn.{Turn}
 use Rattle.terms.specs.Bytes.{number_of, unpacked}
@@ -66,6 +67,15 @@ abbrev pub take_record : Turn → Table → List ℕ → Taken
 take_record now t l = record_of now t l (stated_kind l) (payload (stated_kind l) l) (rest_after (stated_kind l) l)
 
 -- ---- all records
+
+-- what a read gives: 0 or the refusal's number, and a table
+pub record Loaded : Type 0 where
+  pub answer : ℕ
+  pub table : Table
+
+-- as the code hands it back
+abbrev pub loaded_of : kept.Loaded → Loaded
+loaded_of l = record { answer = refusal_number l.refusal; table = l.table }
 
 -- a refused read hands back the fresh state
 abbrev pub refused_read : ℕ → Loaded

@@ -1,10 +1,12 @@
 -- The writer (document 01, "Saved image" and "Writer"): the records of a table in their order, and what becomes of a lent buffer.
 -- Definitions only; assumes nothing.
-use Rattle.std.specs.Prelude.{not, List, [], ◌∷◌, ◌++◌, ℕ, ltb, length, if◌then◌else◌}
+use Rattle.std.specs.Prelude.{not, List, [], ◌∷◌, ◌++◌, ℕ, ltb, length, Result, Ok, Err, if◌then◌else◌}
 use Rattle.terms.specs.Choose.{Refusal, ◌when◌, answered}
 use Rattle.terms.specs.Counted.{gather, one}
 use Rattle.terms.specs.Limits.{NODES, OBJECTS, PLACES, owner}
 use Rattle.terms.specs.Numbers.{ACCEPTED, SHAPE, ROOM}
+use Rattle.terms.specs.Refusals.{number_of}
+use Rattle.terms.specs.declared.Refusal as why
 use Rattle.entry.specs.declared.Entry.{Entry}
 use Rattle.entry.specs.declared.Entry.TheVariants.{Absent, AtOwner, Elsewhere}
 use Rattle.heap.specs.Heap.{fields_of, is_live, roots_of}
@@ -63,6 +65,16 @@ unfoldable pub image : Table → List ℕ
 image t = bytes_of_all (records_of t)
 
 -- ---- a lent buffer
+
+-- what a write gives: 0 or the refusal's number, and the length; refused, the length is 0
+pub record Written : Type 0 where
+  pub answer : ℕ
+  pub length : ℕ
+
+-- as the code hands it back
+abbrev pub written_of : Result ℕ why.Refusal → Written
+written_of (Ok n) = record { answer = ACCEPTED; length = n }
+written_of (Err r) = record { answer = number_of r; length = 0 }
 
 -- why the bytes of a table are not put: the shape isn't asked
 abbrev pub put_refusals : Table → List ℕ → List Refusal

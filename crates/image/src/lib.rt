@@ -1,55 +1,29 @@
 // The saved image of a table: the types that its definitions, in specs/, and its reader and writer, two crates above this one, speak of.
 #![tactic(auto)]
 
+mod kinds; // kinds.rt: the kinds of record, and how many bytes each has
 mod told; // told.rt: what a record tells, taken apart
 
 use entry::Entry;
+use heap::{Object, Roots};
+pub use kinds::HEAD;
 use table::{Message, Table};
+use terms::Refusal;
 
-// The answer is 0 or the refusal's number; refused, the table is the fresh one.
+// A table, or why there is none. No `Result`, since a refused read hands back the fresh table.
 #[derive(Clone, Copy)]
 pub struct Loaded {
-    pub answer: u8,
+    pub refusal: Option<Refusal>,
     pub table: Table,
 }
 
-// The answer is 0 or the refusal's number; refused, the length is 0.
-#[derive(Clone, Copy)]
-pub struct Written {
-    pub answer: u8,
-    pub length: usize,
-}
-
-// An object, its fields one by one: an enum holds no array.
-#[derive(Clone, Copy)]
-pub struct ObjectParts {
-    pub live: bool,
-    pub f0: u8,
-    pub f1: u8,
-    pub f2: u8,
-    pub f3: u8,
-}
-
-// The roots of a node, one by one.
-#[derive(Clone, Copy)]
-pub struct RootParts {
-    pub r0: u8,
-    pub r1: u8,
-    pub r2: u8,
-    pub r3: u8,
-    pub r4: u8,
-    pub r5: u8,
-    pub r6: u8,
-    pub r7: u8,
-}
-
-// What a record tells of the field.
+// What a record tells of the field. The definitions of specs/Find.antt name `Nothing`, so there is no `Option` round it.
 #[derive(Clone, Copy)]
 pub enum Held {
     Nothing,
     Count(u32),
-    Object(ObjectParts),
-    Roots(RootParts),
+    Object(Object),
+    Roots(Roots),
     Entry(Entry),
     Message(Message),
 }
@@ -63,25 +37,26 @@ pub struct Found {
     pub held: Held,
 }
 
-// The bytes of one record, and how many of them count.
+// The bytes of one record, and how many of them count: no slice, since the record is made where the caller has no buffer, and `Tells` of
+// specs/RecordBytes.antt names both.
 #[derive(Clone, Copy)]
 pub struct RecordBytes {
     pub bytes: [u8; 20],
     pub length: usize,
 }
 
-// The kinds of record.
-#[derive(Clone, Copy)]
+// The kinds of record; a number that stands for none is of kind `Unknown`, which the definitions of specs/Records.antt name.
+#[derive(Clone, Copy, Debug, PartialEq, Eq)]
 pub enum RecordKind {
-    Count,
-    Live,
-    NodeRoots,
-    Directory,
-    Remote,
-    Reference,
-    Decrement,
-    End,
-    Unknown,
+    Count = 0x0100,
+    Live = 0x0101,
+    NodeRoots = 0x0102,
+    Directory = 0x0103,
+    Remote = 0x0104,
+    Reference = 0x0105,
+    Decrement = 0x0106,
+    End = 0x01FF,
+    Unknown = 0,
 }
 
 // The records that may come next: from one position of the image order up to another, both included.
@@ -89,13 +64,6 @@ pub enum RecordKind {
 pub struct Turn {
     pub first: u32,
     pub last: u32,
-}
-
-// What is known of a record by its frame: a refusal's number, or its kind.
-#[derive(Clone, Copy)]
-pub enum Frame {
-    Refused(u8),
-    Whole(RecordKind),
 }
 
 // Where a record stands in the image order, the number of the thing that it is about, and what may come after it.
@@ -106,25 +74,16 @@ pub struct Spot {
     pub next: Turn,
 }
 
-// The record at the front of the bytes: 0 and its kind, or the refusal's number and no kind; the number of the thing that it is about, what
-// may come after it, and how many bytes it has.
+// The record at the front of the bytes: its kind, the number of the thing that it is about, what may come after it, and how many bytes it has.
 #[derive(Clone, Copy)]
 pub struct Front {
-    pub answer: u8,
     pub kind: RecordKind,
     pub key: usize,
     pub next: Turn,
     pub length: usize,
 }
 
-impl Loaded {
-    pub const ACCEPTED: u8 = 0;
-}
-
-impl Written {
-    pub const ACCEPTED: u8 = 0;
-
-    pub const SHAPE: u8 = 1;
-
-    pub const ROOM: u8 = 26;
+impl Turn {
+    // An image begins with the event count.
+    pub const FIRST: Turn = Turn { first: 0, last: 0 };
 }

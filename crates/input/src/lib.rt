@@ -14,6 +14,7 @@ pub fn read_full<I: Read>(input: &mut I, buf: &mut [u8]) -> io::Result<usize>
     ensures end { IfOk result (λ n. n < length buf.new → IsAtEnd (I.remaining input.new)) }
 {
     let mut done = 0;
+    // Each read decides how far this goes, so that no range counts the turns.
     while done < buf.len() {
         let n = input.read(&mut buf[done..])?;
         if n == 0 {

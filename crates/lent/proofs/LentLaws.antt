@@ -15,9 +15,9 @@ use Rattle.entry.specs.declared.Directory.{Directory}
 use Rattle.entry.specs.declared.Remote.{Remote}
 use Rattle.entry.specs.declared.Entry.{Entry}
 use Rattle.entry.specs.declared.Entry.TheVariants.{Absent, AtOwner, Elsewhere}
-use Rattle.entry.specs.declared.DirectoryAct.{DirectoryAct}
-use Rattle.entry.specs.declared.RemoteAct.{RemoteAct}
-use Rattle.entry.specs.declared.EntryAct.{EntryAct}
+use Rattle.entry.specs.Acts.{DirectoryAct}
+use Rattle.entry.specs.Acts.{RemoteAct}
+use Rattle.entry.specs.AtNode.{EntryAct}
 use Rattle.entry.specs.Entry.{both}
 use Rattle.entry.specs.Fits.{fits_returns, fits_directory_returns, fits_weight, fits_directory, fits_remote}
 use Rattle.entry.specs.Acts.{stays, directory, with_counts, directory_settled, remote_settled}

@@ -7,7 +7,7 @@ use Rattle.entry.specs.declared.ReturnCount.{ReturnCount}
 use Rattle.entry.specs.declared.Weight.{Weight}
 use Rattle.entry.specs.declared.Entry.{Entry}
 use Rattle.entry.specs.declared.Entry.TheVariants.{Absent, AtOwner, Elsewhere}
-use Rattle.entry.specs.declared.EntryAct.{EntryAct}
+use Rattle.entry.specs.AtNode.{EntryAct}
 use Rattle.entry.specs.Fits.{fits_returns, fits_weight, fits_directory, fits_remote}
 use Rattle.entry.specs.AtNode.{settled, refuses}
 

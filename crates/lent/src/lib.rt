@@ -2,37 +2,33 @@
 #![tactic(auto)]
 
 ghost use Rattle.std.specs.Prelude.{◌≡◌};
+ghost use Rattle.terms.specs.Refusals.{answer_of};
+ghost use Rattle.entry.specs.Acts.{told};
 ghost use Rattle.lent.specs.Lent.{fits_alone, fits_decrement, lent};
 
-use entry::{Entry, EntryAct, ReturnCount, Weight};
+use entry::{Act, Entry, ReturnCount, Weight};
+use terms::Refusal;
 
-// A number of the entry or of the decrement is out of its range.
-pub const SHAPE: u8 = 1;
-
-// A decrement is settled on the entry. The number is 0, or the refusal's, and then the entry stays as it was.
+// A decrement is settled on the entry. Refused, the entry stays as it was.
 #[tactic(auto, unfolding(crate::specs::Lent::lent))]
-pub fn settle(e: &mut Entry, m: ReturnCount, n: Weight) -> u8
-    ensures { (result ≡ (lent e.old m n).refusal) × (e.new ≡ (lent e.old m n).entry) }
+pub fn settle(e: &mut Entry, m: ReturnCount, n: Weight) -> Result<(), Refusal>
+    ensures { (answer_of result ≡ (lent e.old m n).refusal) × (e.new ≡ (lent e.old m n).entry) }
 {
     let act = settled(*e, m, n);
     *e = act.entry;
-    act.refusal
+    act.refusal.map_or(Ok(()), Err)
 }
 
-// The number, and the entry that then stands.
-#[tactic(auto, unfolding(crate::specs::Lent::lent))]
-fn settled(e: Entry, m: ReturnCount, n: Weight) -> EntryAct
-    ensures { result ≡ lent e m n }
+// The act on the entry by value: a number of the entry or of the decrement that is out of its range is refused first.
+#[tactic(auto, using(crate::proofs::LentLaws::lent_in_range), unfolding(crate::specs::Lent::lent))]
+fn settled(e: Entry, m: ReturnCount, n: Weight) -> Act<Entry>
+    ensures { told result ≡ lent e m n }
 {
-    let out_of_range = EntryAct {
-        refusal: SHAPE,
-        entry: e,
-    };
-    if !fits_alone(e) {
-        return out_of_range;
-    }
-    if !decrement_fits(m, n) {
-        return out_of_range;
+    if !fits_alone(e) || !decrement_fits(m, n) {
+        return Act {
+            refusal: Some(Refusal::Shape),
+            entry: e,
+        };
     }
     e.settled(m, n)
 }
@@ -53,8 +49,5 @@ fn fits_alone(e: Entry) -> bool
 fn decrement_fits(m: ReturnCount, n: Weight) -> bool
     ensures { result ≡ fits_decrement m n }
 {
-    if !m.fits() {
-        return false;
-    }
-    n.fits()
+    m.fits() && n.fits()
 }

@@ -18,19 +18,17 @@ use Rattle.splice.specs.Changed.{roots_with}
 use Rattle.splice.proofs.Events.{root_differs}
 use Rattle.splice.specs.Kinds.{object_with}
 use Rattle.splice.proofs.KindLaws.{new_differs, store_differs}
-use Rattle.step.specs.declared.Deed.TheVariants.{Arranged}
-use Rattle.step.specs.declared.Outcome.{Outcome}
+use Rattle.step.specs.Deed.{Arranged}
+use Rattle.step.specs.Outcome.{Outcome, by, did, refused}
 use Rattle.step.specs.Clear.{clear}
 use Rattle.step.specs.Load.{load, out_of_reach}
 use Rattle.step.specs.Move.{move}
 use Rattle.step.specs.New.{chosen, new}
-use Rattle.step.specs.Outcome.{by, did, refused}
 use Rattle.step.specs.Store.{store}
 use Rattle.table.specs.declared.Table.{Table}
 use Rattle.table.specs.ShapeLaws.{root_object, shaped}
 use Rattle.table.specs.Table.{entry_at, with_heap}
-use Rattle.plan.specs.declared.Change.TheVariants.{Same}
-use Rattle.plan.specs.declared.Plan.{Plan}
+use Rattle.plan.specs.Change.{Same, Plan}
 use Rattle.plan.specs.Matched.{lowest_same, counted, object_made, roots_made}
 use Rattle.plan.specs.Plan.{at, free_own_in, object_of, object_spot, out_of_reach_in, root_of}
 use Rattle.plan.specs.Plan.{refused_plan, root_plan, new_plan, load_plan, store_plan}

@@ -1,5 +1,7 @@
 pub mod Accepted
+pub mod Change
 pub mod HeapPlans
+pub mod Made
 pub mod MadePlans
 pub mod Matched
 pub mod MessagePlans

@@ -16,10 +16,9 @@ use Rattle.table.specs.declared.Message.TheVariants as m
 use Rattle.image.specs.declared.Found.{Found}
 use Rattle.image.specs.declared.Held.TheVariants as h
 use Rattle.image.specs.Find.{of_roots, roots_in, entry_in}
-use Rattle.step.specs.declared.Deed.TheVariants.{Sent}
+use Rattle.step.specs.Deed.{Sent}
 use Rattle.step.specs.Receive.{receipt, reply}
-use Rattle.plan.specs.declared.Change.TheVariants.{Same}
-use Rattle.plan.specs.declared.Plan.{Plan}
+use Rattle.plan.specs.Change.{Same, Plan}
 use Rattle.plan.specs.Plan.{refused_plan, at, roots_spot, entry_spot_in, message_spot, roots_of, root_of, entry_of}
 use Rattle.plan.specs.Plan.{is_dead_own_in, empty_place_in, send_plan, receive_plan}
 use Rattle.plan.specs.Planned.{Pass}

@@ -12,8 +12,7 @@ use Rattle.image.specs.Spots.{count, object, roots}
 use Rattle.splice.specs.Events.{count_to, object_to, roots_to}
 use Rattle.splice.specs.Patched as patched
 use Rattle.table.specs.declared.Table.{Table}
-use Rattle.plan.specs.declared.Change.{Change}
-use Rattle.plan.specs.declared.Change.TheVariants.{To}
+use Rattle.plan.specs.Change.{Change, To}
 use Rattle.plan.specs.Plan.{at, object_spot, roots_spot}
 use Rattle.plan.specs.Planned.{Matches, made}
 use Rattle.plan.specs.Told.{Told}

@@ -41,7 +41,7 @@ use Rattle.step.specs.Outcome.{by}
 use Rattle.step.specs.Receive.{receive, receive_of, receive_torn, reply}
 use Rattle.step.specs.Send.{is_dead_own, is_full, send, send_torn}
 use Rattle.step.specs.Settle.{settle, settle_of}
-use Rattle.plan.specs.declared.Change.{Change}
+use Rattle.plan.specs.Change.{Change}
 use Rattle.plan.specs.Matched.{lowest_same, counted, roots_made}
 use Rattle.plan.specs.Plan.{at, entry_spot_in, message_spot, root_of, entry_of, message_of, is_dead_own_in, empty_place_in}
 use Rattle.plan.specs.Plan.{send_plan, receive_plan, settle_plan, drop_plan}

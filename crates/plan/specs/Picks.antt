@@ -13,8 +13,8 @@ use Rattle.table.specs.declared.Table.{Table}
 use Rattle.image.specs.Spots.{Spot, spot_position, record_at}
 use Rattle.splice.specs.Patched.{Change, place_in, Ascends, Outside, Stands}
 use Rattle.splice.specs.Spread.{Within}
-use Rattle.plan.specs.declared.Change as bytes
-use Rattle.plan.specs.declared.Change.TheVariants.{Same}
+use Rattle.plan.specs.Change as bytes
+use Rattle.plan.specs.Change.{Same}
 use Rattle.plan.specs.Planned.{Matches, same}
 
 -- the change of a number that passes, none of another

@@ -21,16 +21,14 @@ use Rattle.image.specs.declared.Held.TheVariants as h
 use Rattle.image.specs.Find.{of_object, of_roots, found_from, object_in, roots_in, entry_in, message_in}
 use Rattle.image.specs.Spots.{object, roots, message, spot_position}
 use Rattle.splice.specs.Changed.{entry_spot}
-use Rattle.step.specs.declared.Deed.TheVariants.{Refused, Arranged, Born, Sent, Settled, Dropped, Cleared}
+use Rattle.step.specs.Deed.{Refused, Arranged, Born, Sent, Settled, Dropped, Cleared}
 use Rattle.step.specs.declared.Event.{Event}
 use Rattle.step.specs.declared.Kind.{Kind}
 use Rattle.step.specs.declared.Kind.TheVariants as k
 use Rattle.step.specs.Drop.{last_words}
 use Rattle.step.specs.Event.{fits_event, kind_of}
 use Rattle.step.specs.Receive.{receipt, reply}
-use Rattle.plan.specs.declared.Change.{Change}
-use Rattle.plan.specs.declared.Change.TheVariants.{Same, To}
-use Rattle.plan.specs.declared.Plan.{Plan}
+use Rattle.plan.specs.Change.{Change, Same, To, Plan}
 
 -- ---- what the image tells
 

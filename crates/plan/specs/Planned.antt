@@ -10,13 +10,10 @@ use Rattle.image.specs.Spots.{Spot, spot_position}
 use Rattle.splice.specs.Patched.{Differs}
 use Rattle.splice.specs.Patched as patched
 use Rattle.splice.specs.Spread.{Within}
-use Rattle.step.specs.declared.Outcome.{Outcome}
-use Rattle.step.specs.Outcome.{refused}
+use Rattle.step.specs.Outcome.{Outcome, refused}
 use Rattle.table.specs.declared.Table.{Table}
 use Rattle.table.specs.Table.{with_count}
-use Rattle.plan.specs.declared.Change.{Change}
-use Rattle.plan.specs.declared.Change.TheVariants.{Same, To}
-use Rattle.plan.specs.declared.Plan.{Plan}
+use Rattle.plan.specs.Change.{Change, Same, To, Plan}
 use Rattle.plan.specs.Plan.{refused_plan, changes_of}
 
 -- changes of bytes that are these changes of records: each from where its spot begins in the image to where the next one does

@@ -12,9 +12,7 @@ use Rattle.heap.specs.Heap as heap
 use Rattle.heap.specs.Walk.{Marks, held_by, is_marked, owned_by, pointed, reached, unmarked}
 use Rattle.image.specs.declared.Held.TheVariants as h
 use Rattle.step.specs.CollectParts.{is_whole, reclaims}
-use Rattle.plan.specs.declared.Change.{Change}
-use Rattle.plan.specs.declared.Change.TheVariants.{Same, To}
-use Rattle.plan.specs.declared.Sweep.{Sweep}
+use Rattle.plan.specs.Change.{Change, Same, To, Sweep}
 use Rattle.plan.specs.Plan.{at, object_spot, object_of, roots_of, entry_spot_in, entry_of}
 
 -- ---- what the image tells

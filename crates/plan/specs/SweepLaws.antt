@@ -20,13 +20,12 @@ use Rattle.table.specs.declared.Table.{Table}
 use Rattle.table.specs.Table.{entry_at, with_count}
 use Rattle.splice.specs.Events.{count_to}
 use Rattle.splice.specs.Patched.{Change, Differs}
-use Rattle.step.specs.declared.Deed.TheVariants.{Collected}
-use Rattle.step.specs.declared.Outcome.{Outcome}
+use Rattle.step.specs.Deed.{Collected}
+use Rattle.step.specs.Outcome.{Outcome, by, did, refused}
 use Rattle.step.specs.Collect.{collect, collect_holding, collect_keeping, counted, held_at, is_reclaimed, kept, with_collected}
 use Rattle.step.specs.CollectLaws.{marked_held, marked_present, torn_by}
 use Rattle.step.specs.CollectParts.{is_whole, present_at}
-use Rattle.step.specs.Outcome.{by, did, refused}
-use Rattle.plan.specs.declared.Sweep.{Sweep}
+use Rattle.plan.specs.Change.{Sweep}
 use Rattle.plan.specs.Plan.{object_of, roots_of, entry_of}
 use Rattle.plan.specs.Sweep.{counted_in, heap_in, held_in, present_of, present_in, refused_sweep, sweep_of, sweep_with, swept_with, is_unused}
 use Rattle.plan.specs.SweepDiffers.{sweep_picks, sweep_differs}

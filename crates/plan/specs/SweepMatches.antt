@@ -22,8 +22,7 @@ use Rattle.splice.specs.Changed.{entry_spot, entry_record}
 use Rattle.splice.proofs.Changed.{entry_within}
 use Rattle.splice.specs.Events.{count_to}
 use Rattle.splice.specs.Patched as patched
-use Rattle.plan.specs.declared.Change.{Change}
-use Rattle.plan.specs.declared.Sweep.{Sweep}
+use Rattle.plan.specs.Change.{Change, Sweep}
 use Rattle.plan.specs.Picks.{picks_match}
 use Rattle.plan.specs.Plan.{at, object_spot, entry_spot_in, entry_of}
 use Rattle.plan.specs.Planned.{Matches, none, made}

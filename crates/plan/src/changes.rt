@@ -1,33 +1,48 @@
-// The parts that a plan is made of: a refusal, and another record where one was found.
-ghost use Rattle.std.specs.Prelude.{◌≡◌};
-ghost use Rattle.plan.specs.Plan.{refused_plan, at};
+// The parts that a plan is made of: a deed, and another record where one was found.
+ghost use Rattle.std.specs.Prelude.{◌≡◌, [], ◌∷◌, None};
+ghost use Rattle.plan.specs.Made.{replacing};
 
-use crate::{Change, Plan};
+use crate::{Plan, Replacement};
 use image::{Found, Held};
 use step::Deed;
 
-pub(crate) fn refused(number: u8) -> Plan
-    ensures { result ≡ refused_plan number }
-{
-    Plan {
-        answer: number,
-        deed: Deed::Refused,
-        object: Change::Same,
-        roots: Change::Same,
-        entry: Change::Same,
-        message: Change::Same,
+impl Plan {
+    // A deed that changes nothing; a rule says what it changes besides.
+    pub(crate) fn of(deed: Deed) -> Plan
+        ensures { result ≡ record {
+          deed = deed;
+          object = None;
+          roots = None;
+          entry = None;
+          message = None;
+        } }
+    {
+        Plan {
+            deed,
+            object: None,
+            roots: None,
+            entry: None,
+            message: None,
+        }
+    }
+
+    // The changes besides the event count, in the order of the image.
+    pub fn changes(&self) -> [Option<Replacement>; 4]
+        ensures { result ≡ self.now.object ∷ self.now.roots ∷ self.now.entry ∷ self.now.message ∷ [] }
+    {
+        [self.object, self.roots, self.entry, self.message]
     }
 }
 
 // What is to stand there of object, node or place a, or of object b at node a.
-pub fn replaced(found: Found, a: u8, b: u8, held: Held) -> Change
-    ensures { result ≡ at found a b held }
+pub fn replaced(found: Found, a: u8, b: u8, held: Held) -> Replacement
+    ensures { result ≡ replacing found a b held }
 {
-    Change::To {
+    Replacement {
         at: found.at,
         after: found.after,
-        a: a,
-        b: b,
-        held: held,
+        a,
+        b,
+        held,
     }
 }

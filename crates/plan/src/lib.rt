@@ -10,50 +10,37 @@ mod plans; // plans.rt: the plan of an event, kind by kind
 mod sweeps; // sweeps.rt: what COLLECT comes to
 
 pub use changes::replaced;
-use image::{Found, Held};
+use image::Held;
 pub use lookups::{entry_from, object_from};
 pub use plans::plan_of;
 use step::Deed;
 pub use sweeps::sweep_of;
 
 // A part of the image replaced by another record: from where to where in the bytes, and what is to stand there of object, node or place a, or
-// of object b at node a. Or nothing replaced.
+// of object b at node a.
 #[derive(Clone, Copy)]
-pub enum Change {
-    Same,
-    To {
-        at: usize,
-        after: usize,
-        a: u8,
-        b: u8,
-        held: Held,
-    },
+pub struct Replacement {
+    pub at: usize,
+    pub after: usize,
+    pub a: u8,
+    pub b: u8,
+    pub held: Held,
 }
 
-// What an event comes to on an image: the answer and the deed as they are of the table, and the changes besides the event count, in the order
-// of the image. Refused, nothing changes.
+// What an accepted event comes to on an image: the deed as it is of the table, and the changes besides the event count, in the order of the image.
 #[derive(Clone, Copy)]
 pub struct Plan {
-    pub answer: u8,
     pub deed: Deed,
-    pub object: Change,
-    pub roots: Change,
-    pub entry: Change,
-    pub message: Change,
+    pub object: Option<Replacement>,
+    pub roots: Option<Replacement>,
+    pub entry: Option<Replacement>,
+    pub message: Option<Replacement>,
 }
 
-// The lowest place in the air without a message, or how many places there are, and what stands there in the bytes.
-#[derive(Clone, Copy)]
-pub struct EmptyPlace {
-    pub s: u8,
-    pub spot: Found,
-}
-
-// What COLLECT comes to on an image: the answer, how many objects are reclaimed, which they are, and for which objects of other nodes the
-// entry is no longer used. Refused, nothing changes.
+// What an accepted COLLECT comes to on an image: how many objects are reclaimed, which they are, and for which objects of other nodes the entry
+// is no longer used.
 #[derive(Clone, Copy)]
 pub struct Sweep {
-    pub answer: u8,
     pub reclaimed: u32,
     pub gone: [bool; 64],
     pub unused: [bool; 64],

@@ -1,6 +1,7 @@
 // What an image tells, asked where it lies: each thing is looked for from a place in the bytes on.
-ghost use Rattle.std.specs.Prelude.{◌≡◌, ◌<◌};
-ghost use Rattle.terms.specs.Limits.{NODES};
+ghost use Rattle.std.specs.Prelude.{◌≡◌, ◌<◌, IfSome};
+ghost use Rattle.std.specs.Option.{unwrap_or};
+ghost use Rattle.terms.specs.Limits.{NODES, OWNED};
 ghost use Rattle.image.specs.Find.{found_from};
 ghost use Rattle.image.specs.Spots.{object, roots, message, spot_position};
 ghost use Rattle.splice.specs.Changed.{entry_spot};
@@ -29,9 +30,10 @@ pub fn entry_from(l: &[u8], from: usize, p: u8, o: u8) -> Found
     ensures { result ≡ found_from from (spot_position (entry_spot p o)) l.now }
 {
     if p == o / Heap::OWNED {
-        return look_from(l, from, place_of(RecordKind::Directory, o, 0));
+        look_from(l, from, place_of(RecordKind::Directory, o, 0))
+    } else {
+        look_from(l, from, place_of(RecordKind::Remote, p, o))
     }
-    look_from(l, from, place_of(RecordKind::Remote, p, o))
 }
 
 // A message of either sort.
@@ -45,10 +47,7 @@ pub(crate) fn message_from(l: &[u8], from: usize, s: u8) -> Found
 pub(crate) fn root_of(l: &[u8], p: u8, r: u8) -> u8
     ensures { result ≡ root_of l.now p r }
 {
-    let found = roots_from(l, 0, p);
-    let held = found.held;
-    let named = held.roots();
-    named.root(r)
+    roots_from(l, 0, p).held.roots().root(r)
 }
 
 // ---- objects that aren't live
@@ -56,10 +55,7 @@ pub(crate) fn root_of(l: &[u8], p: u8, r: u8) -> u8
 fn is_live(l: &[u8], o: u8) -> bool
     ensures { result ≡ (object_of l.now o).live }
 {
-    let found = object_from(l, 0, o);
-    let held = found.held;
-    let x = held.object();
-    x.live
+    object_from(l, 0, o).held.object().live
 }
 
 // An object of p that isn't live.
@@ -67,24 +63,14 @@ fn is_live(l: &[u8], o: u8) -> bool
 pub(crate) fn is_dead_own(l: &[u8], p: u8, o: u8) -> bool
     ensures { result ≡ is_dead_own_in l.now p o }
 {
-    if o / Heap::OWNED != p {
-        return false;
-    }
-    !is_live(l, o)
+    o / Heap::OWNED == p && !is_live(l, o)
 }
 
-// The lowest object of p that isn't live, counted from 0 among its own; as many as it owns where all are live.
-#[tactic(auto, unfolding(crate::specs::Plan::free_own_in))]
-pub(crate) fn free_own(l: &[u8], p: u8) -> u8
+// The lowest object of p that isn't live, counted from 0 among its own.
+pub(crate) fn free_own(l: &[u8], p: u8) -> Option<u8>
     requires { p < NODES }
-    ensures { result ≡ free_own_in l.now p }
+    ensures lowest { unwrap_or result OWNED ≡ free_own_in l.now p }
+    ensures owned { IfSome result (λ k. k < OWNED) }
 {
-    let mut free: u8 = 0;
-    while free < Heap::OWNED {
-        if !is_live(l, Heap::OWNED * p + free) {
-            return free;
-        }
-        free += 1;
-    }
-    free
+    (0..Heap::OWNED).find(|&k| !is_live(l, Heap::OWNED * p + k))
 }

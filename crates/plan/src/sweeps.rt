@@ -1,13 +1,16 @@
 // COLLECT on an image, where it lies: what it asks of the bytes, each scan going on where the last thing found ends, and what is decided of the
 // answers.
 ghost use Rattle.std.specs.Prelude.{◌≡◌, ◌<◌};
-ghost use Rattle.terms.specs.Limits.{NODES, OBJECTS};
-ghost use Rattle.plan.specs.Sweep.{heap_in, counted_in, present_in, refused_sweep, swept_with, is_unused, sweep_of};
+ghost use Rattle.terms.specs.Limits.{NODES};
+ghost use Rattle.plan.specs.Made.{sweep_made, tested};
+ghost use Rattle.plan.specs.Sweep.{heap_in, counted_in, present_in, sweep_of};
 
 use crate::Sweep;
 use crate::lookups::{entry_from, object_from, roots_from};
 use heap::{Heap, Marks};
-use step::{Outcome, is_reclaimed, is_whole, reclaimed};
+use std::array;
+use step::Collection;
+use terms::Refusal;
 
 // ---- what the image tells
 
@@ -16,24 +19,16 @@ fn heap_in(image: &[u8]) -> Heap
     ensures { result ≡ heap_in image.now }
 {
     let mut h = Heap::fresh();
-    let mut at: usize = 0;
-    let mut o: u8 = 0;
-    while o < Heap::OBJECTS {
+    let mut at = 0;
+    for o in 0..Heap::OBJECTS {
         let found = object_from(image, at, o);
-        let held = found.held;
-        let i = o as usize;
-        h.objects[i] = held.object();
+        h.objects[usize::from(o)] = found.held.object();
         at = found.after;
-        o += 1;
     }
-    let mut p: u8 = 0;
-    while p < Heap::NODES {
+    for p in 0..Heap::NODES {
         let found = roots_from(image, at, p);
-        let held = found.held;
-        let i = p as usize;
-        h.roots[i] = held.roots();
+        h.roots[usize::from(p)] = found.held.roots();
         at = found.after;
-        p += 1;
     }
     h
 }
@@ -44,16 +39,11 @@ fn counted_in(image: &[u8], p: u8) -> [bool; 8]
     ensures { result ≡ counted_in image.now p }
 {
     let mut tests = [false; 8];
-    let mut at: usize = 0;
-    let mut k: u8 = 0;
-    while k < Heap::OWNED {
+    let mut at = 0;
+    for k in 0..Heap::OWNED {
         let found = entry_from(image, at, p, Heap::OWNED * p + k);
-        let held = found.held;
-        let e = held.entry();
-        let i = k as usize;
-        tests[i] = !e.is_clear();
+        tests[usize::from(k)] = !found.held.entry().is_clear();
         at = found.after;
-        k += 1;
     }
     tests
 }
@@ -63,86 +53,42 @@ fn present_in(image: &[u8], p: u8) -> Marks
     ensures { result.seen ≡ present_in image.now p }
 {
     let mut seen = [false; 64];
-    let mut at: usize = 0;
-    let mut o: u8 = 0;
-    while o < Heap::OBJECTS {
+    let mut at = 0;
+    for o in 0..Heap::OBJECTS {
         if p != o / Heap::OWNED {
             let found = entry_from(image, at, p, o);
-            let held = found.held;
-            let e = held.entry();
-            let i = o as usize;
-            seen[i] = e.is_present();
+            seen[usize::from(o)] = found.held.entry().is_present();
             at = found.after;
         }
-        o += 1;
     }
-    Marks { seen: seen }
+    Marks { seen }
 }
 
 // ---- what is decided
 
-// An object of another node that p has marked as present and that nothing at p holds.
-fn is_unused(p: u8, held: Marks, present: Marks, o: u8) -> bool
-    requires { o < OBJECTS }
-    ensures { result ≡ is_unused p held.seen present.seen o }
+// What goes, and what is no longer used.
+fn swept(collection: &Collection) -> Sweep
+    ensures { result ≡ tested collection.now }
 {
-    if o / Heap::OWNED == p {
-        return false;
-    }
-    let i = o as usize;
-    if held.seen[i] {
-        return false;
-    }
-    present.seen[i]
-}
-
-// The objects that go, and the other nodes' objects whose entry at p is no longer used.
-fn swept(h: Heap, p: u8, marks: Marks, present: Marks) -> Sweep
-    ensures { result ≡ swept_with h present.seen marks.seen p }
-{
-    let held = h.held(p, marks);
-    let mut gone = [false; 64];
-    let mut unused = [false; 64];
-    let mut o: u8 = 0;
-    while o < Heap::OBJECTS {
-        let i = o as usize;
-        gone[i] = is_reclaimed(h, p, marks, o);
-        unused[i] = is_unused(p, held, present, o);
-        o += 1;
-    }
     Sweep {
-        answer: Outcome::ACCEPTED,
-        reclaimed: reclaimed(h, p, marks),
-        gone: gone,
-        unused: unused,
+        reclaimed: collection.reclaimed(),
+        gone: array::from_fn(|o| collection.is_reclaimed(o as u8)),
+        unused: array::from_fn(|o| collection.is_unused(o as u8)),
     }
 }
 
-fn refused(number: u8) -> Sweep
-    ensures { result ≡ refused_sweep number }
-{
-    let none = [false; 64];
-    Sweep {
-        answer: number,
-        reclaimed: 0,
-        gone: none,
-        unused: none,
-    }
-}
-
-// What isn't a node is refused.
-#[tactic(auto, unfolding(crate::specs::Sweep::sweep_of, crate::specs::Sweep::sweep_with))]
-pub fn sweep_of(image: &[u8], p: u8) -> Sweep
-    ensures { result ≡ sweep_of image.now p }
+// The objects that go, and the other nodes' objects whose entry at p is no longer used. What isn't a node is refused.
+pub fn sweep_of(image: &[u8], p: u8) -> Result<Sweep, Refusal>
+    ensures { sweep_made result ≡ sweep_of image.now p }
 {
     if Heap::NODES <= p {
-        return refused(Outcome::EVENT);
+        return Err(Refusal::Event);
     }
-    let h = heap_in(image);
-    let marks = h.reached(p, counted_in(image, p));
-    let present = present_in(image, p);
-    if !is_whole(h, p, present, marks) {
-        return refused(Outcome::TORN);
-    }
-    swept(h, p, marks, present)
+    let collection = Collection::new(
+        heap_in(image),
+        p,
+        counted_in(image, p),
+        present_in(image, p),
+    )?;
+    Ok(swept(&collection))
 }

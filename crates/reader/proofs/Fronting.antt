@@ -1,18 +1,17 @@
 -- The three layers together are the reader's definition: what is refused is refused by it with the same number, and what is taken is taken
 -- by it. Assumes nothing.
-use Rattle.std.specs.Prelude.{if◌then◌else◌}
+use Rattle.std.specs.Prelude.{Ok, Err, if◌then◌else◌}
 use Rattle.std.proofs.Common.{◌≡◌, refl, sym, ap, subst, ◌∙◌, Bool, true, false, true≢false, List, [], ◌∷◌, ◌++◌, ℕ, ◌+◌, ◌≤◌, ◌<◌, arith, length}
 use borrow.Author.Tests.{ltb-false, not-false}
 use Rattle.terms.specs.Choose.{Refusal, answered}
+use Rattle.terms.specs.Refusals.{number_of}
+use Rattle.terms.specs.declared.Refusal as why
 use Rattle.table.specs.declared.Table.{Table}
-use Rattle.image.specs.declared.Frame.{Frame}
-use Rattle.image.specs.declared.Frame.TheVariants.{Refused, Whole}
-use Rattle.image.specs.declared.Front.{Front}
+use Rattle.image.specs.declared.Front as taken
 use Rattle.image.specs.declared.RecordKind.{RecordKind}
-use Rattle.image.specs.declared.RecordKind.TheVariants.{Unknown}
 use Rattle.image.specs.declared.Turn.{Turn}
 use Rattle.image.specs.Content.{fits_record}
-use Rattle.image.specs.Front.{frame_of, key_of, no_front, good_front, whole_of, after_frame, front_of}
+use Rattle.image.specs.Front.{Frame, Refused, Whole, Front, frame_of, key_of, no_front, good_front, whole_of, after_frame, front_of_result, front_of}
 use Rattle.image.specs.Order.{turn_after}
 use Rattle.image.proofs.ReadLaws.{NoneApplies, Refusing}
 use Rattle.image.specs.Reader.{Taken, stop, stated_kind, payload, rest_after, frame_refusals, content_refusals, take_in, record_of, take_record}
@@ -46,18 +45,6 @@ module _ {A : Type 0} (P : A → Type 0) (f : ℕ → A) (x : A) (refuse : (n : 
       go : (b : Bool) → r.applies ≡ b → ((NoneApplies rs → P x) → P (answered f rs x)) → P (if b then f r.number else answered f rs x)
       go true e rest = refuse r.number refusing.0
       go false e rest = rest (λ none. accept (e, none))
-
--- ---- the frame
-
--- a frame in order is long enough
-pub whole_long : (l : List ℕ) (k : RecordKind) → frame_of l ≡ Whole k → HEAD + length_of k ≤ length l
-unfolding frame_of
-whole_long l k =
-    decided (λ (x : Frame). x ≡ Whole k → HEAD + length_of k ≤ length l) Refused (Whole (stated_kind l))
-    (λ n pos e. let z : ◌≡◌ {A = ℕ} 0 1 = cc in absurd (omega arith))
-    (frame_refusals (stated_kind l) l)
-    (omega arith, (omega arith, (omega arith, (omega arith, tt))))
-    (λ none e. let same : stated_kind l ≡ k = cc in rw same at (ltb-false (length l) (HEAD + length_of (stated_kind l)) none.1.1.1.0))
 
 -- ---- the whole record
 
@@ -113,50 +100,32 @@ module _ (now : Turn) (l : List ℕ) where
   unfolding both refusals denied granted record_of
   outcome_is t = sym (answered_map (λ (b : Both). b.outcome t) denied granted refusals)
 
--- ---- what the loop makes of it
+-- ---- what the code hands back
 
--- of a record of kind k that is taken
-pub record Good (now : Turn) (l : List ℕ) (k : RecordKind) (f : Front) : Type 0 where
-  pub answer : f.answer ≡ 0
-  pub key : f.key ≡ key_of k (payload k l)
-  pub next : f.next ≡ turn_after k (payload k l)
-  pub size : f.length ≡ HEAD + length_of k
-  pub fits : fits_record k (payload k l) ≡ true
-  pub long : HEAD + length_of k ≤ length l
-  pub takes : (t : Table) → take_record now t l ≡ take_in t k (payload k l) (rest_after k l)
-
--- of one that is not
-pub record Bad (now : Turn) (l : List ℕ) (f : Front) : Type 0 where
-  pub some : 0 < f.answer
-  pub size : f.length ≡ 0
-  pub stops : (t : Table) → take_record now t l ≡ stop f.answer
+-- a record that is taken
+pub record Good (now : Turn) (l : List ℕ) (f : taken.Front) : Type 0 where
+  pub key : f.key ≡ key_of f.kind (payload f.kind l)
+  pub next : f.next ≡ turn_after f.kind (payload f.kind l)
+  pub size : f.length ≡ HEAD + length_of f.kind
+  pub fits : fits_record f.kind (payload f.kind l) ≡ true
+  pub long : HEAD + length_of f.kind ≤ length l
+  pub takes : (t : Table) → take_record now t l ≡ take_in t f.kind (payload f.kind l) (rest_after f.kind l)
 
 module _ (now : Turn) (l : List ℕ) where
   good_of : (x : Both) → Seen l x → ((t : Table) → take_record now t l ≡ x.outcome t)
-      → (k : RecordKind) → is_unknown k ≡ false → x.front.kind ≡ k → Good now l k x.front
-  good_of x (refused n pos) out k known e = absurd (true≢false (ap is_unknown e ∙ known))
-  good_of x (good j j_known fits long) out k known e =
-      subst (λ (i : RecordKind). Good now l i (good_front j (payload j l))) e
-      (record { answer = refl; key = refl; next = refl; size = refl; fits = fits; long = long; takes = out })
+      → (f : taken.Front) → front_of_result (Ok f) ≡ x.front → Good now l f
+  good_of x (refused n pos) out f e = let zero_is : 0 ≡ n = ap (λ (g : Front). g.answer) e in absurd (omega (arith, zero_is))
+  good_of x (good k known fits long) out f e =
+      subst (λ (g : Front). Good now l (record { kind = g.kind; key = g.key; next = g.next; length = g.length })) (sym e)
+      (record { key = refl; next = refl; size = refl; fits = fits; long = long; takes = out })
 
-  bad_of : (x : Both) → Seen l x → ((t : Table) → take_record now t l ≡ x.outcome t) → x.front.kind ≡ Unknown → Bad now l x.front
-  bad_of x (refused n pos) out e = record { some = pos; size = refl; stops = out }
-  bad_of x (good j j_known fits long) out e = absurd (true≢false (sym (ap is_unknown e) ∙ j_known))
+  bad_of : (x : Both) → Seen l x → ((t : Table) → take_record now t l ≡ x.outcome t)
+      → (r : why.Refusal) → front_of_result (Err r) ≡ x.front → (t : Table) → take_record now t l ≡ stop (number_of r)
+  bad_of x (refused n pos) out r e t = out t ∙ ap (λ (g : Front). stop g.answer) (sym e)
+  bad_of x (good k known fits long) out r e t = absurd (true≢false (ap (λ (g : Front). is_unknown g.kind) e ∙ known))
 
-  pub good_front_lem : (f : Front) → f ≡ front_of now l → (k : RecordKind) → is_unknown k ≡ false → f.kind ≡ k → Good now l k f
-  good_front_lem f is k known e =
-      subst (λ (g : Front). g.kind ≡ k → Good now l k g) (sym (is ∙ front_is now l))
-      (good_of (both now l) (seen now l) (outcome_is now l) k known) e
+  pub good_front_lem : (f : taken.Front) → front_of_result (Ok f) ≡ front_of now l → Good now l f
+  good_front_lem f is = good_of (both now l) (seen now l) (outcome_is now l) f (is ∙ front_is now l)
 
-  pub bad_front : (f : Front) → f ≡ front_of now l → f.kind ≡ Unknown → Bad now l f
-  bad_front f is e =
-      subst (λ (g : Front). g.kind ≡ Unknown → Bad now l g) (sym (is ∙ front_is now l))
-      (bad_of (both now l) (seen now l) (outcome_is now l)) e
-
--- no record passes the end of the bytes
-pub front_within : (now : Turn) (l : List ℕ) (f : Front) → f ≡ front_of now l → f.length ≤ length l
-front_within now l f is = rw (is ∙ front_is now l) (go (both now l) (seen now l))
-  where
-    go : (x : Both) → Seen l x → x.front.length ≤ length l
-    go x (refused n pos) = omega arith
-    go x (good k known fits long) = long
+  pub bad_front : (r : why.Refusal) → front_of_result (Err r) ≡ front_of now l → (t : Table) → take_record now t l ≡ stop (number_of r)
+  bad_front r is = bad_of (both now l) (seen now l) (outcome_is now l) r (is ∙ front_is now l)

@@ -1,26 +1,26 @@
 // An image checked where it lies: the reader's answer, and no table.
 ghost use Rattle.std.specs.Prelude.{◌≡◌};
+ghost use Rattle.terms.specs.Refusals.{answer_of};
 ghost use Rattle.image.specs.Check.{check};
 
 use crate::fronts::front_of;
-use image::{Loaded, RecordKind, Turn};
+use image::{RecordKind, Turn};
+use terms::Refusal;
 
-// The answer that `read` gives: the first refusal, or 0 at the end record.
-pub fn check(bytes: &[u8]) -> u8
-    ensures { result ≡ check bytes.now }
+// Whether `read` accepts the image: its first refusal, or none up to the end record. The loop is that of `fill` with no table: a closure for the
+// difference would need a contract longer than the loop, a chain of `F.step`s along the records.
+#[tactic(auto, using(crate::proofs::Checking::at_start, crate::proofs::Checking::further))]
+pub fn check(bytes: &[u8]) -> Result<(), Refusal>
+    ensures { answer_of result ≡ check bytes.now }
 {
-    let mut turn = Turn { first: 0, last: 0 };
-    let mut at: usize = 0;
+    let mut turn = Turn::FIRST;
+    let mut rest = bytes;
     loop {
-        let rest = &bytes[at..];
-        let front = front_of(turn, rest);
-        let kind = front.kind;
-        turn = front.next;
-        at += front.length;
-        match kind {
-            RecordKind::End => return Loaded::ACCEPTED,
-            RecordKind::Unknown => return front.answer,
-            _ => {}
+        let front = front_of(turn, rest)?;
+        if front.kind == RecordKind::End {
+            return Ok(());
         }
+        turn = front.next;
+        rest = &rest[front.length..];
     }
 }

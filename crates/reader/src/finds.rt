@@ -1,21 +1,17 @@
 // What stands at a position of an image, found by a scan over the records as they lie in the bytes: no table is made, and a record that is
 // passed costs one test of the length, one kind and one comparison.
-ghost use Rattle.std.specs.Prelude.{◌≡◌, [], ◌∷◌, ◌+◌, ◌≤◌, length, drop};
-ghost use Rattle.image.specs.Find.{kind_of_low, offset, front_at, held_in, held_of, found_from};
-ghost use Rattle.image.specs.Order.{position_of};
-ghost use Rattle.image.specs.Reader.{payload};
-ghost use Rattle.image.specs.Records.{HEAD as HEAD_BYTES, length_of};
+ghost use Rattle.std.specs.Prelude.{◌≡◌, ◌+◌, ◌-◌, ◌≤◌, length, drop};
+ghost use Rattle.image.specs.Find.{kind_of_low, offset, front_at, held_of, size_of, found_from};
 
-use crate::contents::{decrement_in, directory_in, object_in, reference_in, remote_in, roots_in};
-use crate::frames::{HEAD, frame_of, length_of};
-use crate::numbers::{BYTE, number_at, wide};
-use crate::orders::{DIRECTORIES, END, MESSAGES, OBJECTS, PAST, REMOTES, ROOTS, spot_of};
-use image::{Found, Frame, Held, RecordKind};
+use crate::contents::held_in;
+use crate::frames::frame_of;
+use crate::orders::{place_of, spot_of};
+use image::{Found, Held, RecordKind};
 
 // With fewer bytes than these no record but the end can be at the front.
 const KEYED: usize = 6;
 
-// The kind that the low byte of its number stands for.
+// The kind that the low byte of its number stands for; what is none of the others counts as the end, which `From<u16>` does not say.
 #[tactic(auto, unfolding(image::specs::Find::kind_of_low))]
 fn kind_of_low(k: u8) -> RecordKind
     ensures { result ≡ kind_of_low k }
@@ -32,97 +28,38 @@ fn kind_of_low(k: u8) -> RecordKind
     }
 }
 
-// The position of a record by its kind and its first two bytes.
-pub fn place_of(kind: RecordKind, a: u8, b: u8) -> u32
-    ensures { result ≡ position_of kind (a ∷ b ∷ []) }
-{
-    match kind {
-        RecordKind::Count => 0,
-        RecordKind::Live => OBJECTS + wide(a),
-        RecordKind::NodeRoots => ROOTS + wide(a),
-        RecordKind::Directory => DIRECTORIES + wide(a),
-        RecordKind::Remote => REMOTES + (BYTE * wide(a) + wide(b)),
-        RecordKind::Reference => MESSAGES + wide(a),
-        RecordKind::Decrement => MESSAGES + wide(a),
-        RecordKind::End => END,
-        RecordKind::Unknown => PAST,
-    }
-}
-
-// Where the records from a position on begin, looked for from a place on. Past the end nothing is looked at.
+// Where the records from a position on begin, looked for from a place on. Past the end nothing is looked at. No `for`: how far a step goes stands
+// in the record.
+#[tactic(auto, using(crate::proofs::Scanning::past, crate::proofs::Scanning::onward))]
 fn find_from(bytes: &[u8], from: usize, position: u32) -> usize
     ensures { result ≡ from + offset position (drop from bytes.now) }
 {
     if bytes.len() < from {
         return from;
     }
-    let mut at: usize = from;
+    let mut at = from;
     while at + KEYED <= bytes.len() {
         let kind = kind_of_low(bytes[at + 2]);
         if position <= place_of(kind, bytes[at + 4], bytes[at + 5]) {
             return at;
         }
-        at += HEAD + length_of(kind);
+        at += kind.size();
     }
     at
 }
 
-// What a record tells.
-fn held_in(kind: RecordKind, l: &[u8]) -> Held
-    requires { HEAD_BYTES + length_of kind ≤ length l.now }
-    ensures { result ≡ held_in kind (payload kind l.now) }
-{
-    match kind {
-        RecordKind::Count => Held::Count(number_at(l, HEAD)),
-        RecordKind::Live => {
-            let x = object_in(l);
-            Held::of_object(x)
-        }
-        RecordKind::NodeRoots => {
-            let x = roots_in(l);
-            Held::of_roots(x)
-        }
-        RecordKind::Directory => {
-            let e = directory_in(l);
-            Held::Entry(e)
-        }
-        RecordKind::Remote => {
-            let e = remote_in(l);
-            Held::Entry(e)
-        }
-        RecordKind::Reference => {
-            let place = reference_in(l);
-            let m = place.held;
-            Held::Message(m)
-        }
-        RecordKind::Decrement => {
-            let place = decrement_in(l);
-            let m = place.held;
-            Held::Message(m)
-        }
-        RecordKind::End => Held::Nothing,
-        RecordKind::Unknown => Held::Nothing,
-    }
-}
-
 // What the record at a place tells, if it is whole and stands at this position.
+#[tactic(auto, using(std::proofs::lemmas::List::drop_all), unfolding(image::specs::Front::frame_of, image::specs::Find::size_of))]
 fn held_at(bytes: &[u8], at: usize, position: u32) -> Held
-    ensures { result ≡ held_of (front_at position (drop at bytes.now)) }
+    ensures held { result ≡ held_of (front_at position (drop at bytes.now)) }
+    ensures within { size_of result ≤ length bytes.now - at }
 {
-    if bytes.len() < at {
+    let Some(rest) = bytes.get(at..) else {
         return Held::Nothing;
-    }
-    let rest = &bytes[at..];
-    let frame = frame_of(rest);
-    match frame {
-        Frame::Refused(number) => Held::Nothing,
-        Frame::Whole(kind) => {
-            let spot = spot_of(kind, rest);
-            if spot.at != position {
-                return Held::Nothing;
-            }
-            held_in(kind, rest)
-        }
+    };
+    match frame_of(rest) {
+        Ok(kind) if spot_of(kind, rest).at == position => held_in(kind, rest),
+        _ => Held::Nothing,
     }
 }
 
@@ -134,8 +71,8 @@ pub fn look_from(bytes: &[u8], from: usize, position: u32) -> Found
     let at = find_from(bytes, from, position);
     let held = held_at(bytes, at, position);
     Found {
-        at: at,
+        at,
         after: at + held.size(),
-        held: held,
+        held,
     }
 }

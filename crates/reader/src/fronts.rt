@@ -1,69 +1,35 @@
-// The record at the front of the bytes: its frame, its turn, its content, in this order.
-ghost use Rattle.std.specs.Prelude.{◌≡◌, ◌+◌, ◌≤◌, length};
-ghost use Rattle.image.specs.Front.{no_front, whole_of, front_of};
-ghost use Rattle.image.specs.Records.{HEAD as HEAD_BYTES, length_of};
+// The record at the front of the bytes: its frame, its turn, its content, in this order. The first that is not in order decides.
+ghost use Rattle.std.specs.Prelude.{◌≡◌, ◌<◌, ◌≤◌, length, IfOk};
+ghost use Rattle.image.specs.Front.{front_of_result, front_of};
 
 use crate::contents::{fits_record, trails};
-use crate::frames::{HEAD, frame_of, length_of};
+use crate::frames::frame_of;
 use crate::orders::spot_of;
-use image::{Frame, Front, Loaded, RecordKind, Turn};
+use image::{Front, Turn};
+use terms::Refusal;
 
-// The refusals.
-const ORDER: u8 = 23;
-
-const VALUE: u8 = 24;
-
-const TRAIL: u8 = 25;
-
-// Refused: nothing is passed over.
-fn no_front(number: u8) -> Front
-    ensures { result ≡ no_front number }
-{
-    let next = Turn { first: 0, last: 0 };
-    Front {
-        answer: number,
-        kind: RecordKind::Unknown,
-        key: 0,
-        next: next,
-        length: 0,
-    }
-}
-
-// A record whose frame is in order: its turn, its numbers, and bytes after the end.
+// The record at the front of the bytes, if it may come now.
 #[tactic(auto, unfolding(image::specs::Front::whole_of))]
-fn whole_of(turn: Turn, kind: RecordKind, l: &[u8]) -> Front
-    requires { HEAD_BYTES + length_of kind ≤ length l.now }
-    ensures { result ≡ whole_of turn kind l.now }
+pub(crate) fn front_of(turn: Turn, l: &[u8]) -> Result<Front, Refusal>
+    ensures front { front_of_result result ≡ front_of turn l.now }
+    ensures some { IfOk result (λ front. 0 < front.length) }
+    ensures within { IfOk result (λ front. front.length ≤ length l.now) }
 {
+    let kind = frame_of(l)?;
     let spot = spot_of(kind, l);
-    if spot.at < turn.first {
-        return no_front(ORDER);
-    }
-    if turn.last < spot.at {
-        return no_front(ORDER);
+    if !(turn.first..=turn.last).contains(&spot.at) {
+        return Err(Refusal::Order);
     }
     if !fits_record(kind, l) {
-        return no_front(VALUE);
+        return Err(Refusal::Value);
     }
     if trails(kind, l) {
-        return no_front(TRAIL);
+        return Err(Refusal::Trail);
     }
-    let next = spot.next;
-    Front {
-        answer: Loaded::ACCEPTED,
-        kind: kind,
+    Ok(Front {
+        kind,
         key: spot.key,
-        next: next,
-        length: HEAD + length_of(kind),
-    }
-}
-
-pub(crate) fn front_of(turn: Turn, l: &[u8]) -> Front
-    ensures { result ≡ front_of turn l.now }
-{
-    let frame = frame_of(l);
-    match frame {
-        Frame::Refused(number) => no_front(number),
-        Frame::Whole(kind) => whole_of(turn, kind, l),
-    }
+        next: spot.next,
+        length: kind.size(),
+    })
 }

@@ -11,5 +11,6 @@ mod orders; // orders.rt: the order of the records
 mod reads; // reads.rt: an image read into a table
 
 pub use checks::check;
-pub use finds::{look_from, place_of};
+pub use finds::look_from;
+pub use orders::place_of;
 pub use reads::read;

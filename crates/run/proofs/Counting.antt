@@ -1,40 +1,40 @@
--- Sums in a loop: one number more, and how large a sum can be; and what one deed adds to a run's counts. Assumes nothing.
-use Rattle.std.proofs.Common.{◌≡◌, refl, ℕ, zero, suc, ◌+◌, ◌*◌, ◌<◌, ◌≤◌, Bool, true, false, add-one, mul-suc, arith}
-use Rattle.terms.specs.Counted.{sum_from, sum, one}
-use Rattle.terms.proofs.CountedLaws.{sum_last}
-use Rattle.step.specs.declared.Deed.{Deed}
-use Rattle.step.specs.declared.Deed.TheVariants.{Refused, Arranged, Born, Sent, CameHome, Made}
-use Rattle.step.specs.declared.Deed.TheVariants.{Merged, Answered, Settled, Collected, Dropped, Cleared}
+-- What std counts and adds up over a range, said by the definitions of terms; and what one deed adds to a run's counts. Assumes nothing.
+use Rattle.std.proofs.Common.{◌≡◌, refl, ap, ◌∙◌, ℕ, zero, suc, ◌+◌, ◌≤◌, Bool, List, length, add-one, arith}
+use Rattle.std.proofs.iter.Yields.{nat_range_steps}
+use Rattle.std.proofs.lemmas.Iterator.{YieldsList-from_range}
+use Rattle.std.proofs.lemmas.Iterator.Consumers.{YieldsList-from_filter, count_from_yields_List}
+use Rattle.std.proofs.lemmas.List.Sums.{length-filter, sum_by-cons}
+use Rattle.std.specs.Borrow.{Bor}
+use Rattle.std.specs.Fn.{CalledAt}
+use Rattle.std.specs.Iterator.{Drains}
+use Rattle.std.specs.Iterator.Adapters.{filter_callee, filter_source, filter_steps}
+use Rattle.std.specs.List.{range_with_len, sum_by}
+use Rattle.std.specs.declared.iter.Filter.{Filter}
+use Rattle.std.specs.declared.ops.Range.{Range}
+use denote.Param.Members.{Mut}
+use Rattle.terms.specs.Counted.{how_many, one, sum_from}
+use Rattle.step.specs.Deed.{Deed}
+use Rattle.step.specs.Deed.{Refused, Arranged, Born, Sent, CameHome, Made}
+use Rattle.step.specs.Deed.{Merged, Answered, Settled, Collected, Dropped, Cleared}
 use Rattle.step.specs.Outcome.{decrements_saved, decrements_sent}
 
--- ---- a loop that sums f over the numbers below a limit
+-- the sum of f over a range
+pub sum_by-range : (f : ℕ → ℕ) (k n : ℕ) → sum_by f (range_with_len k n) ≡ sum_from k n f
+unfolding sum_from
+sum_by-range f k zero = refl
+sum_by-range f k (suc n) =
+    sum_by-cons f k (range_with_len (k + 1) n)
+    ∙ ap (λ (rest : ℕ). f k + rest) (sum_by-range f (k + 1) n ∙ ap (λ (j : ℕ). sum_from j n f) (add-one k))
 
--- the numbers below i are done, and n is their sum
-module _ (limit : ℕ) (f : ℕ → ℕ) where
-  abbrev pub Summed : ℕ → ℕ → Type 0
-  Summed i n = (i ≤ limit) × (n ≡ sum i f)
-
-  pub summed_none : Summed 0 0
-  unfolding sum_from
-  summed_none = (omega arith, refl)
-
-  pub summed_more : {i n x : ℕ} → Summed i n → i < limit → x ≡ f i → Summed (i + 1) (n + x)
-  summed_more {i} {n} {x} s lt e = (omega arith, rw (s.1, e, add-one, sum_last i f))
-
-  -- where no part is more than b, the sum with one part more is not large
-  module _ (b : ℕ) (most : (k : ℕ) → f k ≤ b) where
-    sum_most : (n : ℕ) → sum n f ≤ b * n
-    unfolding sum_from
-    sum_most zero = omega arith
-    sum_most (suc n) = rw (sum_last n f) (omega (arith, sum_most n, most n, mul-suc b n))
-
-    pub summed_small : {i n x : ℕ} → Summed i n → x ≡ f i → n + x ≤ b * i + b
-    summed_small {i} {n} {x} s e = omega (arith, s.1, e, sum_most i, most i)
-
--- a test counts for one at most
-pub one_most : (b : Bool) → one b ≤ 1
-one_most true = omega arith
-one_most false = omega arith
+-- a count of those below n that pass a test
+module _ {F : Type 0} {g : Mut F (Bor ℕ × Unit {0}) Bool} {f : F} {s : Filter (Range ℕ) F} (test : ℕ → Bool) (n : ℕ) where
+  pub how_many-filter : {r : ℕ} → filter_source s ≡ record { start = 0; end = n } → filter_callee s ≡ f
+      → ((xs : List ℕ) × Drains (filter_steps nat_range_steps g) s xs × (r ≡ length xs))
+      → ((k : ℕ) (b : Bool) (q : F) → CalledAt g f k b q → (q ≡ f) × (b ≡ test k)) → r ≡ how_many n test
+  how_many-filter {r} source callee ran tests =
+      count_from_yields_List s r ran (YieldsList-from_filter g test (YieldsList-from_range 0 n n source (omega arith)) callee tests)
+      ∙ length-filter test (range_with_len 0 n)
+      ∙ sum_by-range (λ k. one (test k)) 0 n
 
 -- ---- what one deed adds to a run's counts
 

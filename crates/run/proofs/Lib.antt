@@ -1,5 +1,6 @@
 pub mod Counting
 pub mod Decimal
 pub mod Lengths
+pub mod NamedLine
 pub mod Telling
 pub mod Written

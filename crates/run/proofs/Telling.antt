@@ -1,16 +1,16 @@
 -- A run record by record: what is still to be told, from the records that are left, makes the whole with what was written. Assumes nothing.
-use Rattle.std.proofs.Common.{◌≡◌, refl, sym, ap, ◌∙◌, ℕ, suc, ◌+◌, ◌*◌, ◌-◌, ◌<◌, ◌≤◌, Bool, true, false, not, eqb, ltb, ltb-false, List, ◌++◌, if◌then◌else◌, length, drop, length-drop, drop-drop, arith}
-use Rattle.terms.specs.Numbers.{ACCEPTED}
+use Rattle.std.proofs.Common.{◌≡◌, refl, sym, ap, ◌∙◌, ℕ, suc, ◌+◌, ◌*◌, ◌-◌, ◌<◌, ◌≤◌, Bool, true, false, not, eqb, ltb, ltb-false, List, ◌++◌, if◌then◌else◌, length, drop, Ok, arith}
 use Rattle.step.specs.declared.Event.{Event}
 use Rattle.step.specs.EventRecord.{RECORD, event_in, states_event}
 use Rattle.step.specs.Step.{step}
 use Rattle.run.specs.declared.Next.{Next}
 use Rattle.run.specs.declared.Next.TheVariants.{Nothing, Broken, Found}
 use Rattle.run.specs.declared.Progress.{Progress}
-use Rattle.run.specs.declared.Ran.{Ran}
-use Rattle.run.specs.Buffer.{Wrote}
+use Rattle.run.specs.declared.Told.{Told}
+use Rattle.run.specs.declared.text.Text.{Text}
+use Rattle.run.specs.Buffer.{Appends, Wrote}
 use Rattle.run.specs.Next.{next}
-use Rattle.run.specs.Ran.{LINE, Ended, told}
+use Rattle.run.specs.Ran.{LINE, Ended, ran_of, told}
 use Rattle.run.specs.Run.{RECORDS, after, beginning, ending, end_from, end_of, line, run_end, run_from, run_text, summary, text_of}
 use Rattle.run.proofs.Counting.{one_decrement}
 use Rattle.run.proofs.Written.{wrote_both, wrote_length}
@@ -18,7 +18,7 @@ use Rattle.run.proofs.Written.{wrote_both, wrote_length}
 -- ---- one record
 
 -- an event has all of its bytes
-found_whole : (l : List ℕ) (e : Event) → next l ≡ Found e → RECORD ≤ length l
+pub found_whole : (l : List ℕ) (e : Event) → next l ≡ Found e → RECORD ≤ length l
 unfolding next
 found_whole l e = go (eqb (length l) 0) (ltb (length l) RECORD) refl
   where
@@ -45,85 +45,82 @@ untaken_end p (Found e) go k = absurd (k e refl)
 
 -- ---- on the way
 
--- at this point of the run: from here on in the input and at this place in the buffer
-pub record Ahead (input out₀ out : List ℕ) (p : Progress) (from at : ℕ) : Type 0 where
+-- at this point of the run: the record with this number is next, and this is left of the input
+pub record Ahead (input : List ℕ) (t₀ t : Text) (p : Progress) (rest : List ℕ) (number : ℕ) : Type 0 where
+  pub same_reference : t.out.ghost_name ≡ t₀.out.ghost_name
+  pub next : number ≡ p.records + 1
   pub few : p.records ≤ RECORDS
   pub sent : p.sent ≤ p.records
   pub saved : p.saved ≤ p.records
-  pub read : from ≤ length input
-  pub short : at ≤ LINE * p.records
-  pub same : length out ≡ length out₀
-  pub tells : (end : List ℕ) (n : ℕ) → Wrote out at (run_from (RECORDS - p.records) p (drop from input)) end n → Wrote out₀ 0 (run_text input) end n
-  pub ends : run_end input ≡ end_from (RECORDS - p.records) p (drop from input)
+  pub short : t.length ≤ LINE * p.records
+  pub same : length t.out.now ≡ length t₀.out.now
+  pub tells : (end : List ℕ) (n : ℕ) → Wrote t.out.now t.length (run_from (RECORDS - p.records) p rest) end n → Wrote t₀.out.now 0 (run_text input) end n
+  pub ends : run_end input ≡ end_from (RECORDS - p.records) p rest
 
 -- where it begins
-pub ahead_all : (input out : List ℕ) → Ahead input out out beginning 0 0
+pub ahead_all : (input : List ℕ) (t : Text) → t.length ≡ 0 → Ahead input t t beginning input 1
 unfolding run_text run_end
-ahead_all input out = record {
+ahead_all input t empty = record {
+  same_reference = refl;
+  next = refl;
   few = omega arith;
   sent = omega arith;
   saved = omega arith;
-  read = omega arith;
   short = omega arith;
   same = refl;
-  tells = λ end n w. w;
+  tells = λ end n w. rw empty at w;
   ends = refl;
 }
 
-module _ {input out₀ out : List ℕ} {p : Progress} {from at : ℕ} (a : Ahead input out₀ out p from at) where
+module _ {input : List ℕ} {t₀ t : Text} {p : Progress} {rest : List ℕ} {number : ℕ} (a : Ahead input t₀ t p rest number) where
   -- one record fewer
   fewer : p.records < RECORDS → RECORDS - p.records ≡ suc (RECORDS - (p.records + 1))
   fewer lt = omega arith
 
   -- an event more
-  module _ (e : Event) (lt : p.records < RECORDS) (f : next (drop from input) ≡ Found e) where
-    text_more : run_from (RECORDS - p.records) p (drop from input)
-        ≡ line (p.records + 1) e (step p.table e)
-        ++ run_from (RECORDS - (p.records + 1)) (after p (step p.table e)) (drop (from + RECORD) input)
+  module _ (e : Event) (lt : p.records < RECORDS) (f : next rest ≡ Found e) where
+    text_more : run_from (RECORDS - p.records) p rest
+        ≡ line (p.records + 1) e (step p.table e) ++ run_from (RECORDS - (p.records + 1)) (after p (step p.table e)) (drop RECORD rest)
     unfolding run_from
-    text_more = rw (fewer lt, f, drop-drop RECORD from input)
+    text_more = rw (fewer lt, f)
 
-    end_more : end_from (RECORDS - p.records) p (drop from input)
-        ≡ end_from (RECORDS - (p.records + 1)) (after p (step p.table e)) (drop (from + RECORD) input)
+    end_more : end_from (RECORDS - p.records) p rest ≡ end_from (RECORDS - (p.records + 1)) (after p (step p.table e)) (drop RECORD rest)
     unfolding end_from
-    end_more = rw (fewer lt, f, drop-drop RECORD from input)
+    end_more = rw (fewer lt, f)
 
-    pub ahead_more : {out' : List ℕ} {at' : ℕ} → Wrote out at (line (p.records + 1) e (step p.table e)) out' at' → at' ≤ at + LINE
-        → Ahead input out₀ out' (after p (step p.table e)) (from + RECORD) at'
-    ahead_more w le = record {
+    pub ahead_more : {t' : Text} → Appends t (line number e (step p.table e)) t'
+        → t'.length ≤ t.length + LINE → Ahead input t₀ t' (after p (step p.table e)) (drop RECORD rest) (number + 1)
+    ahead_more {t'} w le = record {
+      same_reference = w.same_reference ∙ a.same_reference;
+      next = ap (λ (n : ℕ). n + 1) a.next;
       few = omega arith;
       sent = omega (arith, a.sent, one_decrement (step p.table e).deed);
       saved = omega (arith, a.saved, one_decrement (step p.table e).deed);
-      read = omega (arith, a.read, found_whole (drop from input) e f, length-drop from input);
       short = omega (arith, a.short);
-      same = wrote_length w ∙ a.same;
-      tells = λ end n v. a.tells end n (rw text_more (wrote_both w v));
+      same = wrote_length w.wrote ∙ a.same;
+      tells = λ end n v. a.tells end n (rw text_more (wrote_both (rw a.next at w.wrote) v));
       ends = a.ends ∙ end_more;
     }
 
   -- ---- where it ends
 
-  -- what comes back tells of the whole run
-  tells_all : (r : Ran) → r.answer ≡ ACCEPTED → r.length ≡ length (run_text input) → r.summary ≡ summary (run_end input) → r ≡ told input
-  tells_all r x y z =
-      let q : record { answer = r.answer; length = r.length; summary = r.summary } ≡ told input = rw (x, y, z) in
-      q
-
-  module _ {front : Next} (n : front ≡ next (drop from input)) {end : List ℕ} (r : Ran)
-      (f : Ended p front out at end r) where
-    closes : run_from (RECORDS - p.records) p (drop from input) ≡ ending (summary p) front → end_from (RECORDS - p.records) p (drop from input) ≡ p
-        → (r ≡ told input) × Wrote out₀ 0 (run_text input) end r.length
-    closes t e =
-        let w = a.tells end r.length (rw t f.2) in
-        (tells_all r f.0 (w.place ∙ omega arith) (f.1 ∙ ap summary (sym (a.ends ∙ e))), w)
+  module _ {front : Next} (n : front ≡ next rest) {end : List ℕ} (r : Told)
+      (f : Ended p front t.out.now t.length end (ran_of (Ok r))) where
+    closes : run_from (RECORDS - p.records) p rest ≡ ending (summary p) front → end_from (RECORDS - p.records) p rest ≡ p
+        → (ran_of (Ok r) ≡ told input) × Wrote t₀.out.now 0 (run_text input) end r.length
+    closes x e =
+        let w = a.tells end r.length (rw x f.2) in
+        let size : r.length ≡ length (run_text input) = omega (arith, w.place) in
+        let last : r.summary ≡ summary (run_end input) = f.1 ∙ ap summary (sym (a.ends ∙ e)) in
+        (rw (size, last), w)
 
     -- before the last record that a run takes
-    pub stopped : p.records < RECORDS → Untaken front → (r ≡ told input) × Wrote out₀ 0 (run_text input) end r.length
+    pub stopped : p.records < RECORDS → Untaken front → (ran_of (Ok r) ≡ told input) × Wrote t₀.out.now 0 (run_text input) end r.length
     unfolding run_from end_from
     stopped lt k = closes (rw (fewer lt, ← n) (untaken_text p front _ k)) (rw (fewer lt, ← n) (untaken_end p front _ k))
 
     -- after it
-    pub full : RECORDS ≤ p.records → (r ≡ told input) × Wrote out₀ 0 (run_text input) end r.length
+    pub full : RECORDS ≤ p.records → (ran_of (Ok r) ≡ told input) × Wrote t₀.out.now 0 (run_text input) end r.length
     unfolding run_from end_from
     full ge =
         let none : RECORDS - p.records ≡ 0 = omega arith in

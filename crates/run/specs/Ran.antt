@@ -1,13 +1,27 @@
 -- A run into a lent buffer: what comes back, and what the buffer is afterwards. The buffer has room for the longest text that a run can
 -- print, or nothing is written. Definitions only; assumes nothing.
-use Rattle.std.specs.Prelude.{◌≡◌, Bool, List, ℕ, ◌+◌, ◌*◌, ltb, length, if◌then◌else◌}
+use Rattle.std.specs.Prelude.{◌≡◌, Bool, List, ℕ, ◌+◌, ◌*◌, ltb, length, if◌then◌else◌, Result, Ok, Err}
 use Rattle.terms.specs.Bytes.{over}
 use Rattle.terms.specs.Numbers.{ACCEPTED, ROOM}
+use Rattle.terms.specs.Refusals.{number_of}
+use Rattle.terms.specs.declared.Refusal.{Refusal}
 use Rattle.run.specs.declared.Next.{Next}
 use Rattle.run.specs.declared.Progress.{Progress}
-use Rattle.run.specs.declared.Ran.{Ran}
+use Rattle.run.specs.declared.Summary.{Summary}
+use Rattle.run.specs.declared.Told.{Told}
 use Rattle.run.specs.Buffer.{Wrote}
 use Rattle.run.specs.Run.{RECORDS, beginning, ending, run_end, run_text, summary}
+
+-- what comes back of a run: 0 or the refusal's number, the bytes of its text, and its summary
+pub record Ran : Type 0 where
+  pub answer : ℕ
+  pub length : ℕ
+  pub summary : Summary
+
+-- what stands for a result that the code hands back; refused, nothing was written and nothing has happened
+abbrev pub ran_of : Result Told Refusal → Ran
+ran_of (Ok t) = record { answer = ACCEPTED; length = t.length; summary = t.summary }
+ran_of (Err r) = record { answer = number_of r; length = 0; summary = summary beginning }
 
 -- the most bytes of an event's line
 abbrev pub LINE : ℕ

@@ -8,9 +8,8 @@ use Rattle.heap.specs.Heap.{is_live}
 use Rattle.table.specs.declared.Table.{Table}
 use Rattle.table.specs.Table.{cell_at, entry_in, fresh_table, is_empty, message_at}
 use Rattle.step.specs.declared.Event.{Event}
-use Rattle.step.specs.declared.Outcome.{Outcome}
 use Rattle.step.specs.EventRecord.{RECORD}
-use Rattle.step.specs.Outcome.{decrements_saved, decrements_sent, value_of}
+use Rattle.step.specs.Outcome.{Outcome, decrements_saved, decrements_sent, value_of}
 use Rattle.step.specs.Step.{step}
 use Rattle.run.specs.declared.Next.{Next}
 use Rattle.run.specs.declared.Next.TheVariants.{Nothing, Broken, Found}

@@ -1,5 +1,6 @@
 -- Text as bytes: ASCII, and numbers in decimal (document 01, "One run in full"). Definitions only; assumes nothing.
 use Rattle.std.specs.Prelude.{List, [], ◌∷◌, ◌++◌, ℕ, zero, suc, ◌+◌, ◌/◌, ◌%◌, ltb, if◌then◌else◌}
+use Rattle.std.specs.Borrow.{Bor}
 use Prim.Native.Char.{code}
 use Prim.Native.String as string
 
@@ -33,3 +34,8 @@ space = 32 ∷ []
 abbrev pub joined : List (List ℕ) → List ℕ
 joined [] = []
 joined (text ∷ texts) = text ++ joined texts
+
+-- a line of numbers, each behind its name
+abbrev pub named_line : List (Bor (List ℕ) × ℕ) → List ℕ
+named_line [] = newline
+named_line (n ∷ ns) = n.0.now ++ (decimal n.1 ++ named_line ns)

@@ -1,6 +1,6 @@
 // What the summary of a run counts in a table.
 ghost use Rattle.std.specs.Prelude.{◌≡◌, not};
-ghost use Rattle.terms.specs.Counted.{how_many, one, sum};
+ghost use Rattle.terms.specs.Counted.{how_many, sum};
 ghost use Rattle.terms.specs.Limits.{OBJECTS, PLACES};
 ghost use Rattle.heap.specs.Heap.{is_live};
 ghost use Rattle.table.specs.Table.{is_empty, message_at};
@@ -9,60 +9,31 @@ ghost use Rattle.run.specs.Run.{entries_of};
 use heap::Heap;
 use table::Table;
 
-// One for what is there.
-fn one_if(there: bool) -> u32
-    ensures { result ≡ one there }
+pub(crate) fn live_objects(h: &Heap) -> u32
+    ensures { result ≡ how_many OBJECTS (is_live h.now) }
 {
-    if there { 1 } else { 0 }
-}
-
-pub(crate) fn live_objects(h: Heap) -> u32
-    ensures { result ≡ how_many OBJECTS (is_live h) }
-{
-    let mut n: u32 = 0;
-    let mut o: u8 = 0;
-    while o < Heap::OBJECTS {
-        n += one_if(h.is_live(o));
-        o += 1;
-    }
-    n
+    (0..Heap::OBJECTS).filter(|&o| h.is_live(o)).count() as u32
 }
 
 // The entries of one object.
-fn entries_of(t: Table, o: u8) -> u32
-    ensures { result ≡ entries_of t o }
+fn entries_of(t: &Table, o: u8) -> u32
+    ensures { result ≡ entries_of t.now o }
 {
-    let mut n: u32 = 0;
-    let mut p: u8 = 0;
-    while p < Table::NODES {
-        let e = t.entry_at(p, o);
-        n += one_if(!e.is_absent());
-        p += 1;
-    }
-    n
+    (0..Table::NODES)
+        .filter(|&p| !t.entry_at(p, o).is_absent())
+        .count() as u32
 }
 
-pub(crate) fn entries(t: Table) -> u32
-    ensures { result ≡ sum OBJECTS (entries_of t) }
+pub(crate) fn entries(t: &Table) -> u32
+    ensures { result ≡ sum OBJECTS (entries_of t.now) }
 {
-    let mut n: u32 = 0;
-    let mut o: u8 = 0;
-    while o < Table::OBJECTS {
-        n += entries_of(t, o);
-        o += 1;
-    }
-    n
+    (0..Table::OBJECTS).map(|o| entries_of(t, o)).sum()
 }
 
-pub(crate) fn messages(t: Table) -> u32
-    ensures { result ≡ how_many PLACES (λ s. not (is_empty (message_at t s))) }
+pub(crate) fn messages(t: &Table) -> u32
+    ensures { result ≡ how_many PLACES (λ s. not (is_empty (message_at t.now s))) }
 {
-    let mut n: u32 = 0;
-    let mut s: u8 = 0;
-    while s < Table::PLACES {
-        let m = t.message_at(s);
-        n += one_if(!m.is_empty());
-        s += 1;
-    }
-    n
+    (0..Table::PLACES)
+        .filter(|&s| !t.message_at(s).is_empty())
+        .count() as u32
 }

@@ -1,15 +1,17 @@
 // A run of event records from the fresh state, and the text that tells of it.
 #![tactic(auto)]
 
-ghost use Rattle.std.specs.Prelude.{◌≡◌, ◌+◌, ◌≤◌, length};
+ghost use Rattle.std.specs.Prelude.{◌≡◌, ◌<◌, ◌↔◌, ◌+◌, ◌≤◌, length, Ok, IfOk, IsErr};
 ghost use Rattle.run.specs.Buffer.{Wrote};
-ghost use Rattle.run.specs.Ran.{ENDING, TEXT, Ended, told, ran, run_bytes};
+ghost use Rattle.run.specs.Ran.{ENDING, TEXT, Ended, ran, ran_of, run_bytes, told};
 ghost use Rattle.run.specs.Run.{run_text};
 
 use crate::line::{put_ending, put_line};
-use crate::records::next_at;
+use crate::records::next_in;
+use crate::text::Text;
 use step::Event;
 use table::Table;
+use terms::Refusal;
 
 mod advance;
 mod counts;
@@ -20,13 +22,8 @@ mod text;
 // The bytes that a buffer needs, so that any run's text fits: 4,096 lines of at most 64 bytes, and 256 for what ends a run.
 pub const TEXT: usize = 262400;
 
-// The answers.
-const ACCEPTED: u8 = 0;
-
-const ROOM: u8 = 26;
-
-// What stands at the front of the records that are left.
-#[derive(Clone, Copy)]
+// What stands at the front of the records that are left. Three names: `None`, `Some(Err(Broken))` and `Some(Ok(e))` would be no plainer.
+#[derive(Clone, Copy, Debug, PartialEq, Eq)]
 pub enum Next {
     // nothing: the run ends
     Nothing,
@@ -45,7 +42,7 @@ pub struct Progress {
 }
 
 // Accepted events, live objects, entries of both sorts, messages of both sorts, decrements sent, decrements saved.
-#[derive(Clone, Copy)]
+#[derive(Clone, Copy, Debug, PartialEq, Eq)]
 pub struct Summary {
     pub events: u32,
     pub live: u32,
@@ -55,65 +52,59 @@ pub struct Summary {
     pub saved: u32,
 }
 
-// What comes back of a run: 0 or the refusal's number, the bytes of its text, and its summary.
-#[derive(Clone, Copy)]
-pub struct Ran {
-    pub answer: u8,
+// What is told of a run: the bytes of its text, and its summary.
+#[derive(Clone, Copy, Debug, PartialEq, Eq)]
+pub struct Told {
     pub length: usize,
     pub summary: Summary,
 }
 
 // What ends a run: the last line, before it `stop` if something stands there that is not taken.
-fn finish(out: &mut [u8], at: usize, p: Progress, front: Next) -> Ran
-    requires { at + ENDING ≤ length out.old }
-    ensures { Ended p front out.old at out.new result }
+fn finish(text: &mut Text, p: &Progress, front: Next) -> Told
+    requires { text.old.length + ENDING ≤ length text.old.out.now }
+    ensures same_reference { text.new.out.ghost_name ≡ text.old.out.ghost_name }
+    ensures ended { Ended p.now front text.old.out.now text.old.length text.new.out.now (ran_of (Ok result)) }
 {
-    let s = p.summary();
-    let length = put_ending(out, at, s, front);
-    Ran {
-        answer: ACCEPTED,
-        length: length,
-        summary: s,
+    let summary = p.summary();
+    put_ending(text, summary, front);
+    Told {
+        length: text.length,
+        summary,
     }
 }
 
 // A line for each event, and what ends the run.
-fn tell(input: &[u8], out: &mut [u8]) -> Ran
-    requires { TEXT ≤ length out.old }
-    ensures { (result ≡ told input.now) × Wrote out.old 0 (run_text input.now) out.new result.length }
+fn tell(input: &[u8], text: &mut Text) -> Told
+    requires empty { text.old.length ≡ 0 }
+    requires room { TEXT ≤ length text.old.out.now }
+    ensures same_reference { text.new.out.ghost_name ≡ text.old.out.ghost_name }
+    ensures value { ran_of (Ok result) ≡ told input.now }
+    ensures wrote { Wrote text.old.out.now 0 (run_text input.now) text.new.out.now result.length }
 {
     let mut p = Progress::beginning();
-    let mut from: usize = 0;
-    let mut at: usize = 0;
-    while p.records < Progress::RECORDS {
-        let front = next_at(input, from);
-        let Next::Found(e) = front else {
-            return finish(out, at, p, front);
+    let mut rest = input;
+    for number in 1..=Progress::RECORDS {
+        let Next::Found(e) = next_in(rest) else {
+            break;
         };
-        let table = p.table;
-        let o = step::step(table, e);
-        at = put_line(out, at, p.records + 1, e, o);
-        p = p.after(o);
-        from += Event::RECORD;
+        let outcome = p.take(e);
+        put_line(text, number, e, outcome);
+        rest = &rest[Event::RECORD..];
     }
-    let front = next_at(input, from);
-    finish(out, at, p, front)
+    finish(text, &p, next_in(rest))
 }
 
 // The run that the event records of `input` make, told at the front of `out`; what stands past the text stays.
 // Nothing is written where `out` is too short for some run.
 #[tactic(auto, unfolding(crate::specs::Ran::ran, crate::specs::Ran::run_bytes))]
-pub fn run(input: &[u8], out: &mut [u8]) -> Ran
-    ensures value { result ≡ ran input.now out.old }
+pub fn run(input: &[u8], out: &mut [u8]) -> Result<Told, Refusal>
+    ensures refused { IsErr result ↔ (length out.old < TEXT) }
+    ensures value { ran_of result ≡ ran input.now out.old }
     ensures out_after { out.new ≡ run_bytes input.now out.old }
+    ensures inside { IfOk result (λ t. t.length ≤ length out.new) }
 {
     if out.len() < TEXT {
-        let nothing = Progress::beginning();
-        return Ran {
-            answer: ROOM,
-            length: 0,
-            summary: nothing.summary(),
-        };
+        return Err(Refusal::Room);
     }
-    tell(input, out)
+    Ok(tell(input, &mut Text::new(out)))
 }

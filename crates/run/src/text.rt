@@ -1,49 +1,55 @@
-// Text into a lent buffer. Each function writes from a place on and hands back the place after what it wrote.
-ghost use Rattle.std.specs.Prelude.{◌≡◌, ◌++◌, ◌+◌, ◌<◌};
-ghost use Rattle.run.specs.Buffer.{Room, Wrote};
-ghost use Rattle.run.specs.Text.{decimal, digit};
+// Text into a lent buffer, from its front on.
+ghost use Rattle.std.specs.Prelude.{◌≡◌};
+ghost use Rattle.run.specs.Text.{decimal, named_line};
 
-const TEN: u32 = 10;
-
-fn digit_byte(n: u32) -> u8
-    requires { n < 10 }
-    ensures { result ≡ digit n }
-{
-    b'0' + n as u8
+// The buffer, and how many of its bytes are written; what stands past them stays.
+// No `fmt::Write`: its contract leaves open when a write fails, and here each is promised whole.
+#[derive(Drop)]
+pub(crate) struct Text<'a> {
+    pub(crate) out: &'a mut [u8],
+    pub(crate) length: usize,
 }
 
-// Bytes as they are.
-pub(crate) fn put_text(out: &mut [u8], at: usize, text: &[u8]) -> usize
-    requires { Room out.old at text.now }
-    ensures { Wrote out.old at text.now out.new result }
-{
-    let mut done = 0;
-    while done < text.len() {
-        out[at + done] = text[done];
-        done += 1;
+impl<'a> Text<'a> {
+    ghost use Rattle.run.specs.Buffer.{RoomFor, Appends};
+
+    // Nothing is written yet.
+    pub(crate) fn new(out: &'a mut [u8]) -> Text<'a>
+        ensures same_reference { result.out.ghost_name ≡ out.entry.ghost_name }
+        ensures bytes { result.out.now ≡ out.old }
+        ensures length { result.length ≡ 0 }
+    {
+        Text { out, length: 0 }
     }
-    at + done
-}
 
-// A number in decimal: what stands before its last digit, then that digit.
-pub(crate) fn put_decimal(out: &mut [u8], at: usize, n: u32) -> usize
-    requires { Room out.old at (decimal n) }
-    ensures { Wrote out.old at (decimal n) out.new result }
-{
-    if n < TEN {
-        out[at] = digit_byte(n);
-        return at + 1;
+    // A text as it is.
+    pub(crate) fn text(&mut self, text: &str)
+        requires { RoomFor self.old text.now }
+        ensures { Appends self.old text.now self.new }
+    {
+        let end = self.length + text.len();
+        self.out[self.length..end].copy_from_slice(text.as_bytes());
+        self.length = end;
     }
-    let last = put_decimal(out, at, n / TEN);
-    out[last] = digit_byte(n % TEN);
-    last + 1
-}
 
-// A number behind its name.
-pub(crate) fn put_named(out: &mut [u8], at: usize, name: &[u8], n: u32) -> usize
-    requires { Room out.old at (name.now ++ decimal n) }
-    ensures { Wrote out.old at (name.now ++ decimal n) out.new result }
-{
-    let number = put_text(out, at, name);
-    put_decimal(out, number, n)
+    // A number in decimal.
+    fn decimal(&mut self, n: u32)
+        requires { RoomFor self.old (decimal n) }
+        ensures { Appends self.old (decimal n) self.new }
+    {
+        let mut digits = itoa::Buffer::new();
+        self.text(digits.format(n));
+    }
+
+    // A line of numbers, each behind its name.
+    pub(crate) fn line(&mut self, numbers: &[(&str, u32)])
+        requires { RoomFor self.old (named_line numbers.now) }
+        ensures { Appends self.old (named_line numbers.now) self.new }
+    {
+        for (name, n) in numbers {
+            self.text(name);
+            self.decimal(*n);
+        }
+        self.text("\n");
+    }
 }

@@ -1,6 +1,9 @@
 pub mod Line
 pub mod Number
 pub mod Text
+pub mod Written
+pub mod Unwritten
 pub mod Records
 pub mod Cases
 pub mod RecordLaws
+pub mod NumberLaws

@@ -1,10 +1,15 @@
 -- One line of a scenario, as a person writes it: nothing, a comment, or an event as five decimal numbers, kind a b c d. Leading zeros are
 -- allowed, signs are not. Definitions only; assumes nothing.
-use Rattle.std.specs.Prelude.{Bool, true, false, List, [], ◌∷◌, ℕ, ◌+◌, ◌-◌, ◌*◌, eqb, leb, length, get_or, take, if◌then◌else◌}
+use Rattle.std.specs.Prelude.{Bool, true, false, List, [], ◌∷◌, ℕ, ◌+◌, ◌-◌, ◌*◌, eqb, leb, length, get_or, take, if◌then◌else◌, Option, Some, None, Result, Ok, Err}
 use Rattle.terms.specs.Choose.{◌and◌, ◌or◌}
+use Rattle.step.specs.declared.Event.{Event}
 use Rattle.step.specs.Event.{event}
-use Rattle.scenario.specs.declared.Line.{Line}
-use Rattle.scenario.specs.declared.Line.TheVariants.{Nothing, One, Bad}
+
+-- what a line means
+pub data Line : Type 0 where
+  Nothing : Line
+  One : Event → Line
+  Bad : Line
 
 -- ---- bytes
 
@@ -110,3 +115,14 @@ bare_line l = if ends l then Nothing else event_in l
 -- what a line means
 unfoldable pub line_of : List ℕ → Line
 line_of l = bare_line (without_return l)
+
+-- ---- what the code hands back, as a line's meaning
+
+abbrev pub event_told : Option Event → Line
+event_told None = Bad
+event_told (Some e) = One e
+
+abbrev pub line_told : {E : Type 0} → Result (Option Event) E → Line
+line_told (Ok None) = Nothing
+line_told (Ok (Some e)) = One e
+line_told (Err _) = Bad

@@ -1,8 +1,12 @@
--- What the code's number, a value and a place in the line's bytes, stands for. Definitions only; assumes nothing.
-use Rattle.std.specs.Prelude.{List, ℕ, drop}
-use Rattle.scenario.specs.declared.numbers.Read.{Read}
-use Rattle.scenario.specs.declared.numbers.Read.TheVariants.{Found, Bad}
+-- What the code's numbers stand for. Definitions only; assumes nothing.
+use Rattle.std.specs.Prelude.{List, ℕ, ◌-◌, length, drop, Option, Some, None}
+use Rattle.std.specs.Borrow.{Bor}
 use Rattle.scenario.specs.Line.{Number, none, found}
+
+-- a number and the place past it in the line's bytes
+pub data Read : Type 0 where
+  Found : (value next : ℕ) → Read
+  Bad : Read
 
 -- its value and the bytes from its place on
 abbrev pub meant : List ℕ → Read → Number
@@ -13,3 +17,13 @@ meant l Bad = none
 abbrev pub value_of : Read → ℕ
 value_of (Found value next) = value
 value_of Bad = 0
+
+-- a value and the bytes behind it, as the code hands them back
+abbrev pub number_told : Option (ℕ × Bor (List ℕ)) → Number
+number_told None = none
+number_told (Some r) = found r.0 r.1.now
+
+-- the same as a number and a place, in the line l
+abbrev pub read_of : List ℕ → Option (ℕ × Bor (List ℕ)) → Read
+read_of l None = Bad
+read_of l (Some r) = Found r.0 (length l - length r.1.now)

@@ -1,12 +1,16 @@
--- Laws of specs/Records.antt: the bytes of a record and its way back to the event, lengths, and that what is written fits. Assumes nothing.
-use Rattle.std.specs.Prelude.{◌≡◌, refl, Bool, true, false, List, [], ◌∷◌, ◌++◌, ℕ, ◌+◌, ◌*◌, ◌/◌, ◌%◌, ◌<◌, ◌≤◌, ltb, length, if◌then◌else◌}
-use Rattle.std.proofs.Common.{◌∙◌, append-nil, append_assoc, ltb-false, length-append}
+-- Laws of specs/Records.antt: the bytes of a record and its way back to the event, lengths, that what is written fits, and that an answer
+-- shows what was handed back. Assumes nothing.
+use Rattle.std.specs.Prelude.{◌≡◌, refl, Bool, true, false, List, [], ◌∷◌, ◌++◌, ℕ, ◌+◌, ◌*◌, ◌/◌, ◌%◌, ◌<◌, ◌≤◌, ltb, length, if◌then◌else◌, Result, Ok, Err}
+use Rattle.std.proofs.Common.{ap, ◌∙◌, append-nil, append_assoc, ltb-false, length-append}
 use Rattle.std.proofs.Math.Nat.{mod-eq_of_lt}
 use native.Mathlib.Omega.{arith}
 use Rattle.step.specs.declared.Event.{Event}
 use Rattle.step.specs.EventRecord.{OPERANDS, RECORD, event_in, is_record}
+use Rattle.scenario.specs.declared.Unwritten.{Unwritten}
+use Rattle.scenario.specs.declared.Unwritten.TheVariants.{BadLine, TooManyEvents}
+use Rattle.scenario.specs.Written.{Written}
 use Rattle.scenario.specs.Text.{Meaning, tells, bad_at, meaning_of}
-use Rattle.scenario.specs.Records.{record_of, records_of, answer, answered, written_of}
+use Rattle.scenario.specs.Records.{record_of, records_of, answer, answer_of, answered, written_of}
 
 module _ (e : Event) (kind : e.kind < 65536) (a : e.a < 256) (b : e.b < 256) (c : e.c < 256) (d : e.d < 256) where
   -- the bytes of a record, one by one
@@ -65,3 +69,15 @@ written_fits text room = go (meaning_of text)
         fits : (b : Bool) → ltb room size ≡ b → (if b then answer 26 0 0 else answer 0 size 0).length ≤ room
         fits true e = omega arith
         fits false e = ltb-false room size e
+
+-- the answer shows what was handed back
+pub answer_of_only : (r s : Result ℕ Unwritten) → answer_of r ≡ answer_of s → r ≡ s
+answer_of_only (Ok n) (Ok m) e = ap (λ (w : Written). Ok w.length) e
+answer_of_only (Ok n) (Err (BadLine line)) e = let k = ap (λ (w : Written). w.answer) e in absurd (omega arith)
+answer_of_only (Ok n) (Err TooManyEvents) e = let k = ap (λ (w : Written). w.answer) e in absurd (omega arith)
+answer_of_only (Err (BadLine line)) (Ok n) e = let k = ap (λ (w : Written). w.answer) e in absurd (omega arith)
+answer_of_only (Err (BadLine line)) (Err (BadLine other)) e = ap (λ (w : Written). Err (BadLine w.line)) e
+answer_of_only (Err (BadLine line)) (Err TooManyEvents) e = let k = ap (λ (w : Written). w.answer) e in absurd (omega arith)
+answer_of_only (Err TooManyEvents) (Ok n) e = let k = ap (λ (w : Written). w.answer) e in absurd (omega arith)
+answer_of_only (Err TooManyEvents) (Err (BadLine line)) e = let k = ap (λ (w : Written). w.answer) e in absurd (omega arith)
+answer_of_only (Err TooManyEvents) (Err TooManyEvents) e = refl

@@ -1,12 +1,14 @@
--- The event records of a scenario (document 01, "Saved image": payload length, kind, payload), and what is written of them into a lent buffer.
+-- The event records of a scenario, each a payload length, a kind and the payload, and what is written of them into a lent buffer.
 -- Definitions only; assumes nothing.
-use Rattle.std.specs.Prelude.{List, [], ◌∷◌, ◌++◌, ℕ, ltb, length, if◌then◌else◌}
+use Rattle.std.specs.Prelude.{List, [], ◌∷◌, ◌++◌, ℕ, ltb, length, if◌then◌else◌, Result, Ok, Err}
 use Rattle.terms.specs.Bytes.{over, packed}
 use Rattle.terms.specs.Numbers.{ACCEPTED, EVENT, ROOM}
 use Rattle.step.specs.declared.Event.{Event}
 use Rattle.step.specs.EventRecord.{OPERANDS, record_widths}
-use Rattle.scenario.specs.declared.Written.{Written}
-use Rattle.scenario.specs.declared.Line.{Line}
+use Rattle.scenario.specs.declared.Unwritten.{Unwritten}
+use Rattle.scenario.specs.declared.Unwritten.TheVariants.{BadLine, TooManyEvents}
+use Rattle.scenario.specs.Written.{Written}
+use Rattle.scenario.specs.Line.{Line}
 use Rattle.scenario.specs.Text.{lines_of, events_in, events_of, Meaning, tells, bad_at, meaning_of}
 
 -- the record of an event
@@ -28,6 +30,12 @@ text_records text = records_of (events_of (lines_of text))
 
 abbrev pub answer : ℕ → ℕ → ℕ → Written
 answer number length line = record { answer = number; length = length; line = line }
+
+-- the answer that stands for what the code hands back
+abbrev pub answer_of : Result ℕ Unwritten → Written
+answer_of (Ok length) = answer ACCEPTED length 0
+answer_of (Err (BadLine line)) = answer EVENT 0 line
+answer_of (Err TooManyEvents) = answer ROOM 0 0
 
 -- the answer, by what the text means and how long the buffer is: EVENT with the number of the bad line, ROOM, or accepted with the records' length
 abbrev pub answered : Meaning → ℕ → Written

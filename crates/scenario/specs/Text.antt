@@ -1,10 +1,10 @@
 -- A scenario: lines between line feeds, numbered from 1. Its meaning is a list of events, or the number of its first bad line.
 -- Definitions only; assumes nothing.
-use Rattle.std.specs.Prelude.{◌≡◌, Bool, true, false, List, [], ◌∷◌, ◌++◌, ℕ, suc, ◌+◌, ◌-◌, ◌≤◌, eqb, length, take, drop, if◌then◌else◌}
+use Rattle.std.specs.Prelude.{◌≡◌, Bool, true, false, List, [], ◌∷◌, ◌++◌, ℕ, suc, ◌+◌, ◌-◌, ◌≤◌, eqb, length, take, drop, if◌then◌else◌, Result, Ok, Err}
 use Rattle.step.specs.declared.Event.{Event}
-use Rattle.scenario.specs.declared.Line.{Line}
-use Rattle.scenario.specs.declared.Line.TheVariants.{Nothing, One, Bad}
-use Rattle.scenario.specs.Line.{line_feed, line_of}
+use Rattle.scenario.specs.declared.Unwritten.{Unwritten}
+use Rattle.scenario.specs.declared.Unwritten.TheVariants.{BadLine}
+use Rattle.scenario.specs.Line.{Line, Nothing, One, Bad, line_feed, line_of}
 
 -- one byte more at the front of the first line
 abbrev pub longer : ℕ → List (List ℕ) → List (List ℕ)
@@ -49,6 +49,11 @@ meaning_of text =
     if eqb bad 0 then tells (events_of lines) else bad_at bad
 
 -- ---- what the two passes over a text find
+
+-- how many events it tells, or its bad line
+abbrev pub checked : Meaning → Result ℕ Unwritten
+checked (tells es) = Ok (length es)
+checked (bad_at line) = Err (BadLine line)
 
 -- the line that starts at `at` ends at `end`: before its line feed, or with the text
 pub record LineEnds (text : List ℕ) (at end : ℕ) : Type 0 where

@@ -1,75 +1,50 @@
 // One line: nothing, an event, or bad.
 ghost use Rattle.std.specs.Prelude.{◌≡◌};
-ghost use Rattle.scenario.specs.Line.{event_in, bare_line, line_of};
+ghost use Rattle.scenario.specs.Line.{event_in, event_told, line_of, line_told, number_in, operand_most, without_return};
+ghost use Rattle.scenario.specs.Number.{number_told};
 
-use crate::Line;
-use crate::numbers::{Read, ends, number};
+use crate::numbers::{ends, number};
 use step::Event;
 
-const RETURN: u8 = 13;
+// A line that has something and is no event.
+#[derive(Clone, Copy, Debug, PartialEq, Eq)]
+pub(crate) struct BadLine;
 
-const KIND_MOST: u16 = 65535;
-
-const OPERAND_MOST: u16 = 255;
+fn operand(l: &[u8]) -> Option<(u8, &[u8])>
+    ensures { number_told result ≡ number_in operand_most l.now }
+{
+    let (value, rest) = number(l, u16::from(u8::MAX))?;
+    Some((value as u8, rest))
+}
 
 // Five numbers, and nothing behind them.
 #[tactic(auto, unfolding(crate::specs::Line::event_in))]
-fn read_event(l: &[u8]) -> Line
-    ensures { result ≡ event_in l.now }
+fn read_event(l: &[u8]) -> Option<Event>
+    ensures { event_told result ≡ event_in l.now }
 {
-    let Read::Found {
-        value: kind,
-        next: p,
-    } = number(l, 0, KIND_MOST)
-    else {
-        return Line::Bad;
-    };
-    let Read::Found { value: a, next: q } = number(l, p, OPERAND_MOST) else {
-        return Line::Bad;
-    };
-    let Read::Found { value: b, next: r } = number(l, q, OPERAND_MOST) else {
-        return Line::Bad;
-    };
-    let Read::Found { value: c, next: s } = number(l, r, OPERAND_MOST) else {
-        return Line::Bad;
-    };
-    let Read::Found { value: d, next: t } = number(l, s, OPERAND_MOST) else {
-        return Line::Bad;
-    };
-    if !ends(l, t) {
-        return Line::Bad;
-    }
-    Line::One(Event {
-        kind,
-        a: a as u8,
-        b: b as u8,
-        c: c as u8,
-        d: d as u8,
-    })
+    let (kind, rest) = number(l, u16::MAX)?;
+    let (a, rest) = operand(rest)?;
+    let (b, rest) = operand(rest)?;
+    let (c, rest) = operand(rest)?;
+    let (d, rest) = operand(rest)?;
+    ends(rest).then_some(Event { kind, a, b, c, d })
 }
 
-// A line without its carriage return.
-#[tactic(auto, unfolding(crate::specs::Line::bare_line))]
-fn read_bare(l: &[u8]) -> Line
-    ensures { result ≡ bare_line l.now }
+#[tactic(auto, unfolding(crate::specs::Line::without_return))]
+fn without_return(l: &[u8]) -> &[u8]
+    ensures { result.now ≡ without_return l.now }
 {
-    if ends(l, 0) {
-        return Line::Nothing;
-    }
-    read_event(l)
+    l.strip_suffix(b"\r").unwrap_or(l)
 }
 
-// A line, from its first byte to its last before the line feed.
-pub(crate) fn read_line(l: &[u8]) -> Line
-    ensures { result ≡ line_of l.now }
+// The event of a line, if it has one. A line goes from its first byte to its last before the line feed.
+#[tactic(auto, unfolding(crate::specs::Line::line_of, crate::specs::Line::bare_line))]
+pub(crate) fn read_line(l: &[u8]) -> Result<Option<Event>, BadLine>
+    ensures { line_told result ≡ line_of l.now }
 {
-    let n = l.len();
-    if n == 0 {
-        return read_bare(l);
+    let bare = without_return(l);
+    if ends(bare) {
+        return Ok(None);
     }
-    let last = n - 1;
-    if l[last] == RETURN {
-        return read_bare(&l[..last]);
-    }
-    read_bare(l)
+    read_event(bare).map(Some).ok_or(BadLine)
 }

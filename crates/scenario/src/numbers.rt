@@ -1,117 +1,56 @@
-// The small readers of a line: blanks, its end, and a decimal number. Each looks at the bytes of l from `at` on; past the end there are none.
-ghost use Rattle.std.specs.Prelude.{◌≡◌, ◌≤◌, drop};
-ghost use Rattle.scenario.specs.Line.{is_blank as is_blank_of, is_digit as is_digit_of, digits as digits_of, ends as ends_of};
-ghost use Rattle.scenario.specs.Line.{skipped, starts_number, number_in};
-ghost use Rattle.scenario.specs.Number.{meant, value_of};
+// The small readers of a line: blanks, its end, and a decimal number. Each takes what is left of the line, and hands back what it leaves of it.
+ghost use Rattle.std.specs.Prelude.{◌≡◌, ◌≤◌, IfSome};
+ghost use Rattle.scenario.specs.Line.{digits as digits_of, ends as ends_of, skipped, number_in};
+ghost use Rattle.scenario.specs.Number.{number_told};
 
-// A number and the place past it.
-#[derive(Clone, Copy)]
-pub(crate) enum Read {
-    Found { value: u16, next: usize },
-    Bad,
-}
-
-const TAB: u8 = 9;
-
-const SPACE: u8 = 32;
-
-const HASH: u8 = 35;
-
-const ZERO: u8 = 48;
-
-const NINE: u8 = 57;
-
-fn is_blank(b: u8) -> bool
-    ensures { result ≡ is_blank_of b }
-{
-    if b == SPACE {
-        return true;
-    }
-    b == TAB
-}
-
-fn is_digit(b: u8) -> bool
-    ensures { result ≡ is_digit_of b }
-{
-    if b < ZERO {
-        return false;
-    }
-    b <= NINE
-}
-
-// The place of the first byte that is no blank.
+// What stands behind the blanks.
 #[tactic(auto, unfolding(crate::specs::Line::skipped))]
-fn skip(l: &[u8], at: usize) -> usize
-    ensures { drop result l.now ≡ skipped (drop at l.now) }
+fn skip(l: &[u8]) -> &[u8]
+    ensures { result.now ≡ skipped l.now }
 {
-    let mut i = at;
-    while i < l.len() {
-        let b = l[i];
-        if !is_blank(b) {
-            return i;
-        }
-        i += 1;
+    let mut rest = l;
+    while let [b' ' | b'\t', tail @ ..] = rest {
+        rest = tail;
     }
-    i
+    rest
 }
 
 // Nothing but blanks, and perhaps a comment.
-pub(crate) fn ends(l: &[u8], at: usize) -> bool
-    ensures { result ≡ ends_of (drop at l.now) }
+#[tactic(auto, unfolding(crate::specs::Line::ends))]
+pub(crate) fn ends(l: &[u8]) -> bool
+    ensures { result ≡ ends_of l.now }
 {
-    let i = skip(l, at);
-    if l.len() <= i {
-        return true;
-    }
-    let b = l[i];
-    b == HASH
+    matches!(skip(l), [] | [b'#', ..])
 }
 
-fn starts_number(l: &[u8], at: usize) -> bool
-    ensures { result ≡ starts_number (drop at l.now) }
+// The digits at the front, as a number up to the limit.
+#[tactic(auto, unfolding(crate::specs::Line::digits))]
+fn digits(l: &[u8], limit: u16) -> Option<(u16, &[u8])>
+    ensures value { number_told result ≡ digits_of limit 0 l.now }
+    ensures most { IfSome result (λ r. r.0 ≤ limit) }
 {
-    if l.len() <= at {
-        return false;
-    }
-    let b = l[at];
-    is_digit(b)
-}
-
-// The digits at `at`, as a number up to the limit.
-fn digits(l: &[u8], at: usize, limit: u16) -> Read
-    ensures { (meant l.now result ≡ digits_of limit 0 (drop at l.now)) × (value_of result ≤ limit) }
-{
-    let most = limit as u32;
+    let most = u32::from(limit);
     let mut n: u32 = 0;
-    let mut i = at;
-    while i < l.len() {
-        let b = l[i];
-        if !is_digit(b) {
-            return Read::Found {
-                value: n as u16,
-                next: i,
-            };
+    let mut rest = l;
+    while let [digit @ b'0'..=b'9', tail @ ..] = rest {
+        n = 10 * n + u32::from(*digit - b'0');
+        if most < n {
+            return None;
         }
-        let more = 10 * n + ((b - ZERO) as u32);
-        if most < more {
-            return Read::Bad;
-        }
-        n = more;
-        i += 1;
+        rest = tail;
     }
-    Read::Found {
-        value: n as u16,
-        next: i,
-    }
+    Some((n as u16, rest))
 }
 
 // Blanks, and a number up to the limit.
-pub(crate) fn number(l: &[u8], at: usize, limit: u16) -> Read
-    ensures { (meant l.now result ≡ number_in limit (drop at l.now)) × (value_of result ≤ limit) }
+#[tactic(auto, unfolding(crate::specs::Line::number_in))]
+pub(crate) fn number(l: &[u8], limit: u16) -> Option<(u16, &[u8])>
+    ensures value { number_told result ≡ number_in limit l.now }
+    ensures most { IfSome result (λ r. r.0 ≤ limit) }
 {
-    let from = skip(l, at);
-    if !starts_number(l, from) {
-        return Read::Bad;
+    let rest = skip(l);
+    if !matches!(rest, [b'0'..=b'9', ..]) {
+        return None;
     }
-    digits(l, from, limit)
+    digits(rest, limit)
 }

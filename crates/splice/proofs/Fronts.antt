@@ -1,12 +1,11 @@
 -- A record at the front of bytes, as the scan looks at it: the low byte of its kind, its first two keys, its frame. Assumes nothing.
 use Rattle.std.specs.Prelude.{◌≡◌, refl, false, List, [], ◌∷◌, ℕ, ◌+◌, ◌%◌, ◌^◌, ◌≤◌, ◌<◌, length}
 use Rattle.std.proofs.Common.{ap, true≢false, arith, le-ltb, eq-eqb}
-use Rattle.image.specs.declared.Frame.TheVariants.{Whole}
+use Rattle.image.specs.Front.{Whole, frame_of}
 use Rattle.image.specs.declared.RecordKind.{RecordKind}
 use Rattle.image.specs.declared.RecordKind.TheVariants.{Count, Live, NodeRoots, Directory, Remote, Reference, Decrement, End, Unknown}
 use Rattle.image.proofs.BytesLaws.{Fit}
 use Rattle.image.specs.Find.{kind_of_low, front_kind, front_place, KEYED}
-use Rattle.image.specs.Front.{frame_of}
 use Rattle.image.specs.Order.{position, position_of}
 use Rattle.image.proofs.ReadLaws.{front, stated_length_lem, stated_kind_lem, front_length}
 use Rattle.image.specs.Records.{HEAD, is_unknown, length_of, widths_of}

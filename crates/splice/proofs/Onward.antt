@@ -8,13 +8,12 @@ use native.Mathlib.Omega.{arith}
 use Rattle.std.proofs.Math.ListN.{length, length-drop}
 use borrow.Author.Tests.{ltb-false, lt-ltb, le-ltb, eqb-true, not-false}
 use Rattle.terms.specs.Choose.{Refusal, answered}
-use Rattle.image.specs.declared.Frame.TheVariants.{Refused, Whole}
+use Rattle.image.specs.Front.{Refused, Whole, frame_of}
 use Rattle.image.specs.declared.RecordKind.{RecordKind}
 use Rattle.image.specs.declared.RecordKind.TheVariants.{Count, Live, NodeRoots, Directory, Remote, Reference, Decrement, End, Unknown}
 use Rattle.image.specs.BytesLaws.{AreBytes}
 use Rattle.image.proofs.BytesLaws.{bytes_drop, fit_unpacked}
 use Rattle.image.specs.Find.{front_kind, front_place, KEYED, offset, held_in, size_of}
-use Rattle.image.specs.Front.{frame_of}
 use Rattle.image.specs.Order.{position_of}
 use Rattle.image.proofs.ReadLaws.{NoneApplies, front_back}
 use Rattle.image.specs.Reader.{stated_kind, stated_length, payload, rest_after, frame_refusals}

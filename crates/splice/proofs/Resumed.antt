@@ -10,13 +10,11 @@ use Rattle.std.proofs.Math.ListN.{length}
 use Rattle.std.proofs.Math.Seq.{drop-drop}
 use borrow.Author.Tests.{eqb-true}
 use Rattle.image.specs.declared.Found.{Found}
-use Rattle.image.specs.declared.Frame.{Frame}
-use Rattle.image.specs.declared.Frame.TheVariants.{Refused, Whole}
+use Rattle.image.specs.Front.{Frame, Refused, Whole, frame_of}
 use Rattle.image.specs.declared.RecordKind.{RecordKind}
 use Rattle.image.specs.BytesLaws.{AreBytes}
 use Rattle.image.proofs.BytesLaws.{bytes_drop}
 use Rattle.image.specs.Find.{front_at, at_frame, offset, held_of, size_of, place, found_from}
-use Rattle.image.specs.Front.{frame_of}
 use Rattle.image.specs.Order.{position_of}
 use Rattle.image.specs.Reader.{payload}
 use Rattle.image.specs.Records.{Record, row}

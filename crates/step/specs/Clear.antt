@@ -4,7 +4,7 @@ use Rattle.terms.specs.Limits.{NONE}
 use Rattle.heap.specs.Heap.{with_root}
 use Rattle.table.specs.declared.Table.{Table}
 use Rattle.table.specs.Table.{with_heap}
-use Rattle.step.specs.declared.Deed.TheVariants.{Arranged}
+use Rattle.step.specs.Deed.{Arranged}
 use Rattle.step.specs.Outcome.{Rule, did}
 
 unfoldable pub clear : Table → ℕ → ℕ → Rule

@@ -13,7 +13,7 @@ use Rattle.heap.specs.Walk.{Marks, is_marked, owned_by, pointed, held_by, reache
 use Rattle.table.specs.declared.Cell.{Cell}
 use Rattle.table.specs.declared.Table.{Table}
 use Rattle.table.specs.Table.{cell_at, cell_with, entry_at, entry_in, with_cells, with_heap}
-use Rattle.step.specs.declared.Deed.TheVariants.{Collected}
+use Rattle.step.specs.Deed.{Collected}
 use Rattle.step.specs.Outcome.{Rule, did}
 
 -- for each object of p, whether its directory has RC above 0 or MsgCtr not 0

@@ -11,7 +11,7 @@ use Rattle.table.specs.declared.Table.{Table}
 use Rattle.table.specs.declared.Message.{Message}
 use Rattle.table.specs.declared.Message.TheVariants.{Decrement}
 use Rattle.table.specs.Table.{entry_at, empty_place, with_entry, with_message}
-use Rattle.step.specs.declared.Deed.TheVariants.{Dropped, Cleared}
+use Rattle.step.specs.Deed.{Dropped, Cleared}
 use Rattle.step.specs.Outcome.{Rule, did, refused}
 use Rattle.step.specs.Send.{is_full}
 

@@ -56,6 +56,20 @@ kind_of k =
     else if eqb k DROP then Drop
     else Unknown
 
+-- the number of each kind; 0, which is none's, of an unknown one
+abbrev pub kind_number : Kind → ℕ
+kind_number New = NEW
+kind_number Move = MOVE
+kind_number Clear = CLEAR
+kind_number Load = LOAD
+kind_number Store = STORE
+kind_number Send = SEND
+kind_number Receive = RECEIVE
+kind_number Settle = SETTLE
+kind_number Collect = COLLECT
+kind_number Drop = DROP
+kind_number Unknown = 0
+
 -- ---- operands
 
 -- how many values each operand may take, from 0 on

@@ -2,12 +2,14 @@ pub mod Clear
 pub mod Collect
 pub mod CollectLaws
 pub mod CollectParts
+pub mod Deed
 pub mod Drop
 pub mod Event
 pub mod EventBytes
 pub mod EventRecord
 pub mod Load
 pub mod Move
+pub mod Named
 pub mod New
 pub mod Outcome
 pub mod Receive

@@ -6,7 +6,7 @@ use Rattle.heap.specs.Heap.{root_at, field_at, is_live, is_none, with_root}
 use Rattle.heap.specs.Walk.{owned_by}
 use Rattle.table.specs.declared.Table.{Table}
 use Rattle.table.specs.Table.{with_heap}
-use Rattle.step.specs.declared.Deed.TheVariants.{Arranged}
+use Rattle.step.specs.Deed.{Arranged}
 use Rattle.step.specs.Outcome.{Rule, did}
 
 -- why the fields of what root q of p holds are out of reach: LOAD and STORE ask the same

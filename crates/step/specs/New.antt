@@ -7,7 +7,7 @@ use Rattle.entry.specs.Entry.{is_absent}
 use Rattle.heap.specs.Heap.{born, root_at, is_none, free_own, with_object, with_root}
 use Rattle.table.specs.declared.Table.{Table}
 use Rattle.table.specs.Table.{entry_at, with_heap}
-use Rattle.step.specs.declared.Deed.TheVariants.{Born}
+use Rattle.step.specs.Deed.{Born}
 use Rattle.step.specs.Outcome.{Rule, did}
 
 -- the object that NEW takes at node p

@@ -1,13 +1,20 @@
 -- What comes of an event: refused with a number, or done; its value; and the form that each event's rule has.
 -- Definitions only; assumes nothing.
-use Rattle.std.specs.Prelude.{Bool, List, ℕ, eqb}
+use Rattle.std.specs.Prelude.{Bool, List, ℕ, eqb, Result, Ok, Err}
 use Rattle.terms.specs.Choose.{Refusal, answered}
 use Rattle.terms.specs.Numbers.{ACCEPTED}
+use Rattle.terms.specs.Refusals.{number_of}
+use Rattle.terms.specs.declared.Refusal as given
 use Rattle.table.specs.declared.Table.{Table}
-use Rattle.step.specs.declared.Deed.{Deed}
-use Rattle.step.specs.declared.Deed.TheVariants.{Refused, Arranged, Born, Sent, CameHome, Made, Merged, Answered, Settled}
-use Rattle.step.specs.declared.Deed.TheVariants.{Collected, Dropped, Cleared}
-use Rattle.step.specs.declared.Outcome.{Outcome}
+use Rattle.step.specs.declared.Deed as told
+use Rattle.step.specs.Deed.{Deed, deed_of}
+use Rattle.step.specs.Deed.{Refused, Arranged, Born, Sent, CameHome, Made, Merged, Answered, Settled, Collected, Dropped, Cleared}
+
+-- the answer is 0 or the refusal's number; refused, the table is the very one that came
+pub record Outcome : Type 0 where
+  pub answer : ℕ
+  pub deed : Deed
+  pub table : Table
 
 -- refused: the state as it was
 abbrev pub refused : Table → ℕ → Outcome
@@ -16,6 +23,11 @@ refused t number = record { answer = number; deed = Refused; table = t }
 -- done: the new state; Step counts the event
 abbrev pub did : Deed → Table → Outcome
 did deed t = record { answer = ACCEPTED; deed = deed; table = t }
+
+-- what stands for a result that the code hands back, and the table that it leaves
+abbrev pub outcome_of : Result told.Deed given.Refusal → Table → Outcome
+outcome_of (Ok deed) t = did (deed_of deed) t
+outcome_of (Err refusal) t = refused t (number_of refusal)
 
 abbrev pub is_accepted : Outcome → Bool
 is_accepted o = eqb o.answer ACCEPTED

@@ -12,8 +12,8 @@ use Rattle.table.specs.declared.Table.{Table}
 use Rattle.table.specs.declared.Message.{Message}
 use Rattle.table.specs.declared.Message.TheVariants.{Empty, Reference, Decrement}
 use Rattle.table.specs.Table.{entry_at, message_at, with_entry, with_heap, with_message}
-use Rattle.step.specs.declared.Deed.{Deed}
-use Rattle.step.specs.declared.Deed.TheVariants.{CameHome, Made, Merged, Answered}
+use Rattle.step.specs.Deed.{Deed}
+use Rattle.step.specs.Deed.{CameHome, Made, Merged, Answered}
 use Rattle.step.specs.Outcome.{Rule, did, refused}
 use Rattle.step.specs.Send.{is_dead_own}
 

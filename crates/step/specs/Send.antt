@@ -10,7 +10,7 @@ use Rattle.heap.specs.Walk.{owned_by}
 use Rattle.table.specs.declared.Table.{Table}
 use Rattle.table.specs.declared.Message.TheVariants.{Reference}
 use Rattle.table.specs.Table.{entry_at, with_entry, with_message, empty_place}
-use Rattle.step.specs.declared.Deed.TheVariants.{Sent}
+use Rattle.step.specs.Deed.{Sent}
 use Rattle.step.specs.Outcome.{Rule, did}
 
 -- no place for a message

@@ -9,7 +9,7 @@ use Rattle.table.specs.declared.Table.{Table}
 use Rattle.table.specs.declared.Message.{Message}
 use Rattle.table.specs.declared.Message.TheVariants.{Empty, Reference, Decrement}
 use Rattle.table.specs.Table.{entry_at, message_at, with_entry, with_message}
-use Rattle.step.specs.declared.Deed.TheVariants.{Settled}
+use Rattle.step.specs.Deed.{Settled}
 use Rattle.step.specs.Outcome.{Rule, did, refused}
 
 -- the decrement leaves place s and the receiver's entry takes its numbers

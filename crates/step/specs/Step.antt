@@ -10,7 +10,7 @@ use Rattle.table.specs.Table.{with_count}
 use Rattle.step.specs.declared.Event.{Event}
 use Rattle.step.specs.declared.Kind.{Kind}
 use Rattle.step.specs.declared.Kind.TheVariants.{New, Move, Clear, Load, Store, Send, Receive, Settle, Collect, Drop, Unknown}
-use Rattle.step.specs.declared.Outcome.{Outcome}
+use Rattle.step.specs.Outcome.{Outcome}
 use Rattle.step.specs.Event.{kind_of, fits_event}
 use Rattle.step.specs.Outcome.{Rule, by, is_accepted, refused}
 use Rattle.step.specs.New.{new}

@@ -3,7 +3,7 @@ use Rattle.std.specs.Prelude.{ℕ}
 use Rattle.heap.specs.Heap.{root_at, with_field}
 use Rattle.table.specs.declared.Table.{Table}
 use Rattle.table.specs.Table.{with_heap}
-use Rattle.step.specs.declared.Deed.TheVariants.{Arranged}
+use Rattle.step.specs.Deed.{Arranged}
 use Rattle.step.specs.Outcome.{Rule, did}
 use Rattle.step.specs.Load.{out_of_reach}
 

@@ -1,5 +1,6 @@
 // What is read of a deed: the event's value, and what the summary of a run counts.
 ghost use Rattle.std.specs.Prelude.{◌≡◌};
+ghost use Rattle.step.specs.Deed.{deed_of};
 ghost use Rattle.step.specs.Outcome.{value_of, decrements_sent, decrements_saved};
 
 use crate::Deed;
@@ -9,59 +10,26 @@ impl Deed {
     pub const NODECREMENT: u32 = 255;
 
     pub fn value(self) -> u32
-        ensures { result ≡ value_of self }
+        ensures { result ≡ value_of (deed_of self) }
     {
         match self {
-            Deed::Refused => 0,
-            Deed::Arranged => 0,
-            Deed::Born(object) => object as u32,
-            Deed::Sent(place) => place as u32,
-            Deed::CameHome => Deed::NODECREMENT,
-            Deed::Made => Deed::NODECREMENT,
-            Deed::Merged => Deed::NODECREMENT,
-            Deed::Answered(place) => place as u32,
-            Deed::Settled => 0,
+            Deed::Arranged | Deed::Settled => 0,
+            Deed::Born(object) => u32::from(object),
+            Deed::Sent(place) | Deed::Answered(place) | Deed::Dropped(place) => u32::from(place),
             Deed::Collected(objects) => objects,
-            Deed::Dropped(place) => place as u32,
-            Deed::Cleared => Deed::NODECREMENT,
+            Deed::CameHome | Deed::Made | Deed::Merged | Deed::Cleared => Deed::NODECREMENT,
         }
     }
 
     pub fn decrements_sent(self) -> u32
-        ensures { result ≡ decrements_sent self }
+        ensures { result ≡ decrements_sent (deed_of self) }
     {
-        match self {
-            Deed::Refused => 0,
-            Deed::Arranged => 0,
-            Deed::Born(_) => 0,
-            Deed::Sent(_) => 0,
-            Deed::CameHome => 0,
-            Deed::Made => 0,
-            Deed::Merged => 0,
-            Deed::Answered(_) => 1,
-            Deed::Settled => 0,
-            Deed::Collected(_) => 0,
-            Deed::Dropped(_) => 1,
-            Deed::Cleared => 0,
-        }
+        u32::from(matches!(self, Deed::Answered(_) | Deed::Dropped(_)))
     }
 
     pub fn decrements_saved(self) -> u32
-        ensures { result ≡ decrements_saved self }
+        ensures { result ≡ decrements_saved (deed_of self) }
     {
-        match self {
-            Deed::Refused => 0,
-            Deed::Arranged => 0,
-            Deed::Born(_) => 0,
-            Deed::Sent(_) => 0,
-            Deed::CameHome => 0,
-            Deed::Made => 0,
-            Deed::Merged => 1,
-            Deed::Answered(_) => 0,
-            Deed::Settled => 0,
-            Deed::Collected(_) => 0,
-            Deed::Dropped(_) => 0,
-            Deed::Cleared => 0,
-        }
+        u32::from(matches!(self, Deed::Merged))
     }
 }

@@ -1,7 +1,7 @@
-// One event on a field table. The types that an event and its outcome have; what each event does stands in specs/.
+// One event on a field table. The types that an event and its deed have; what each event does stands in specs/.
 #![tactic(auto)]
 
-use table::Table;
+use heap::{Heap, Marks};
 
 mod collect;
 mod deeds;
@@ -9,7 +9,6 @@ mod drop;
 mod fields;
 mod kinds;
 mod new;
-mod outcomes;
 mod receive;
 mod records;
 mod roots;
@@ -17,13 +16,13 @@ mod send;
 mod settle;
 mod steps;
 
-pub use collect::{is_reclaimed, is_whole, reclaimed};
 pub use drop::last_words;
 pub use receive::{receipt, reply};
 pub use steps::step;
 
-// As it is written in a record: the kind has two bytes, each operand one.
-#[derive(Clone, Copy)]
+// As it is written in a record: the kind has two bytes, each operand one. The kind stays a number, and the operands have their names, since a
+// record may say any of them and the definitions `event` and `kind_of` take them so.
+#[derive(Clone, Copy, Debug, PartialEq, Eq)]
 pub struct Event {
     pub kind: u16,
     pub a: u8,
@@ -32,23 +31,24 @@ pub struct Event {
     pub d: u8,
 }
 
-#[derive(Clone, Copy)]
+// Unknown, in place of an `Option`, is what the definition `kind_of` names.
+#[derive(Clone, Copy, Debug, PartialEq, Eq)]
 pub enum Kind {
-    New,
-    Move,
-    Clear,
-    Load,
-    Store,
-    Send,
-    Receive,
-    Settle,
-    Collect,
-    Drop,
-    Unknown,
+    New = 1,
+    Move = 2,
+    Clear = 3,
+    Load = 4,
+    Store = 5,
+    Send = 6,
+    Receive = 7,
+    Settle = 8,
+    Collect = 9,
+    Drop = 10,
+    Unknown = 0,
 }
 
 // How many values each operand may take, from 0 on.
-#[derive(Clone, Copy)]
+#[derive(Clone, Copy, Debug, PartialEq, Eq)]
 pub struct Ranges {
     pub a: u8,
     pub b: u8,
@@ -56,11 +56,9 @@ pub struct Ranges {
     pub d: u8,
 }
 
-// What an event did. Its value and the summary of a run are read from this, and from nothing else.
-#[derive(Clone, Copy)]
+// What an accepted event did. Its value and the summary of a run are read from this, and from nothing else.
+#[derive(Clone, Copy, Debug, PartialEq, Eq)]
 pub enum Deed {
-    // refused: nothing
-    Refused,
     // roots and fields only: MOVE, CLEAR, LOAD, STORE
     Arranged,
     // NEW: the object
@@ -85,10 +83,15 @@ pub enum Deed {
     Cleared,
 }
 
-// The answer is 0 or the refusal's number; refused, the table is the very one that came.
+// COLLECT at a node: what is asked there before anything goes, and by which it goes.
 #[derive(Clone, Copy)]
-pub struct Outcome {
-    pub answer: u8,
-    pub deed: Deed,
-    pub table: Table,
+pub struct Collection {
+    pub heap: Heap,
+    pub node: u8,
+    // for each object, whether the node has an entry for it with Presence true
+    pub present: Marks,
+    // the node's objects that are started from or reached, on that node only
+    pub kept: Marks,
+    // what a root of the node or a kept object holds
+    pub held: Marks,
 }

@@ -2,32 +2,26 @@
 ghost use Rattle.std.specs.Prelude.{◌≡◌, ◌<◌};
 ghost use Rattle.terms.specs.Limits.{NODES};
 ghost use Rattle.step.specs.New.{new};
-ghost use Rattle.step.specs.Outcome.{by};
+ghost use Rattle.step.specs.Outcome.{by, outcome_of};
 
-use crate::outcomes::{did, refused};
-use crate::{Deed, Outcome};
+use crate::Deed;
 use heap::Heap;
 use table::Table;
+use terms::Refusal;
 
 #[tactic(auto, unfolding(crate::specs::New::new))]
-pub(crate) fn new(t: Table, p: u8, r: u8) -> Outcome
+pub(crate) fn new(t: &mut Table, p: u8, r: u8) -> Result<Deed, Refusal>
     requires { p < NODES }
-    ensures { result ≡ by t (new t p r) }
+    ensures { outcome_of result t.new ≡ by t.old (new t.old p r) }
 {
-    let h = t.heap;
-    if h.root(p, r) != Heap::NONE {
-        return refused(t, Outcome::ROOT);
+    if t.heap.root(p, r) != Heap::NONE {
+        return Err(Refusal::Root);
     }
-    let k = h.free_own(p);
-    if Heap::OWNED <= k {
-        return refused(t, Outcome::NOROOM);
+    let o = Heap::OWNED * p + t.heap.free_own(p).ok_or(Refusal::NoRoom)?;
+    if !t.entry_at(p, o).is_absent() {
+        return Err(Refusal::Torn);
     }
-    let o = Heap::OWNED * p + k;
-    let e = t.entry_at(p, o);
-    if !e.is_absent() {
-        return refused(t, Outcome::TORN);
-    }
-    let born = h.with_born(o);
-    let named = born.with_root(p, r, o);
-    did(Deed::Born(o), t.with_heap(named))
+    t.heap.set_born(o);
+    t.heap.set_root(p, r, o);
+    Ok(Deed::Born(o))
 }

@@ -10,17 +10,14 @@ const OPERANDS: u16 = 4;
 fn byte_at(bytes: &[u8], at: usize) -> u8
     ensures { result ≡ get_or bytes.now at 0 }
 {
-    if bytes.len() <= at {
-        return 0;
-    }
-    bytes[at]
+    bytes.get(at).copied().unwrap_or(0)
 }
 
 // Two bytes, little-endian.
 fn word(low: u8, high: u8) -> u16
     ensures { result ≡ low + 256 * high }
 {
-    low as u16 + 256 * (high as u16)
+    u16::from_le_bytes([low, high])
 }
 
 impl Event {
@@ -38,16 +35,15 @@ impl Event {
     pub fn is_record(bytes: &[u8]) -> bool
         ensures { result ≡ is_record bytes.now }
     {
-        if bytes.len() != Event::RECORD {
-            return false;
-        }
-        Event::is_stated(bytes)
+        bytes.len() == Event::RECORD && Event::is_stated(bytes)
     }
+}
 
-    // The event that the first eight bytes hold.
-    pub fn of_record(bytes: &[u8]) -> Event
-        ensures { result ≡ event_in bytes.now }
-    {
+// The event that the first eight bytes hold.
+impl From<&[u8]> for Event {
+    ghost from_gives = { λ bytes e. e ≡ event_in bytes.now };
+
+    fn from(bytes: &[u8]) -> Event {
         Event {
             kind: word(byte_at(bytes, 2), byte_at(bytes, 3)),
             a: byte_at(bytes, 4),

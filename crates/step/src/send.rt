@@ -1,63 +1,43 @@
 // SEND P r Q: the reference in root r goes into the lowest empty place; root r keeps it.
 ghost use Rattle.std.specs.Prelude.{◌≡◌};
-ghost use Rattle.step.specs.Outcome.{by};
-ghost use Rattle.step.specs.Send.{is_dead_own, send, send_torn};
+ghost use Rattle.step.specs.Outcome.{by, outcome_of};
+ghost use Rattle.step.specs.Send.{is_dead_own, send};
 
-use crate::outcomes::{did, refused};
-use crate::{Deed, Outcome};
+use crate::Deed;
+use crate::roots::named;
 use heap::Heap;
 use table::{Message, Table};
+use terms::Refusal;
 
 // An object of p that isn't live.
-pub(crate) fn is_dead_own(t: Table, p: u8, o: u8) -> bool
-    ensures { result ≡ is_dead_own t p o }
+pub(crate) fn is_dead_own(t: &Table, p: u8, o: u8) -> bool
+    ensures { result ≡ is_dead_own t.now p o }
 {
-    if o / Heap::OWNED != p {
-        return false;
-    }
-    let h = t.heap;
-    !h.is_live(o)
-}
-
-// Own object not live, no entry with Presence true for another's, or a count that would leave its range.
-pub(crate) fn send_torn(t: Table, p: u8, q: u8, o: u8) -> bool
-    ensures { result ≡ send_torn t p q o }
-{
-    if is_dead_own(t, p, o) {
-        return true;
-    }
-    let e = t.entry_at(p, o);
-    let act = e.sent(p, q, o);
-    act.refuses()
+    o / Heap::OWNED == p && !t.heap.is_live(o)
 }
 
 #[tactic(auto, unfolding(crate::specs::Send::send))]
-pub(crate) fn send(t: Table, p: u8, r: u8, q: u8) -> Outcome
-    ensures { result ≡ by t (send t p r q) }
+pub(crate) fn send(t: &mut Table, p: u8, r: u8, q: u8) -> Result<Deed, Refusal>
+    ensures { outcome_of result t.new ≡ by t.old (send t.old p r q) }
 {
     if p == q {
-        return refused(t, Outcome::SELF);
+        return Err(Refusal::ToItself);
     }
-    let h = t.heap;
-    let o = h.root(p, r);
-    if o == Heap::NONE {
-        return refused(t, Outcome::EMPTY);
+    let o = named(&t.heap, p, r)?;
+    // Own object not live, no entry with Presence true for another's, or a count that would leave its range.
+    let act = t.entry_at(p, o).sent(p, q, o);
+    if is_dead_own(t, p, o) || act.refuses() {
+        return Err(Refusal::Torn);
     }
-    if send_torn(t, p, q, o) {
-        return refused(t, Outcome::TORN);
-    }
-    let s = t.empty_place();
-    if Table::PLACES <= s {
-        return refused(t, Outcome::FULL);
-    }
-    let e = t.entry_at(p, o);
-    let act = e.sent(p, q, o);
-    let sender = act.entry;
-    let counted = t.with_entry(p, o, sender);
-    let message = Message::Reference {
-        from: p,
-        to: q,
-        object: o,
-    };
-    did(Deed::Sent(s), counted.with_message(s, message))
+    let s = t.empty_place().ok_or(Refusal::Full)?;
+    t.set_entry(p, o, act.entry);
+    t.set_message(
+        s,
+        Message::Reference {
+            from: p,
+            to: q,
+            object: o,
+        },
+    );
+    Ok(Deed::Sent(s))
 }

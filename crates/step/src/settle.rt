@@ -1,54 +1,31 @@
 // SETTLE s: the decrement in s reaches its node.
 ghost use Rattle.std.specs.Prelude.{◌≡◌};
-ghost use Rattle.step.specs.Outcome.{by};
-ghost use Rattle.step.specs.Settle.{settle, settle_of};
-ghost use Rattle.table.specs.declared.Message.TheVariants.{Decrement};
+ghost use Rattle.step.specs.Outcome.{by, outcome_of};
+ghost use Rattle.step.specs.Settle.{settle};
 
-use crate::outcomes::{did, refused};
-use crate::{Deed, Outcome};
-use entry::{ReturnCount, Weight};
+use crate::Deed;
 use table::{Message, Table};
+use terms::Refusal;
 
 #[tactic(auto, unfolding(crate::specs::Settle::settle_of))]
-pub(crate) fn settle_decrement(
-    t: Table,
-    s: u8,
-    from: u8,
-    to: u8,
-    o: u8,
-    m: ReturnCount,
-    n: Weight,
-) -> Outcome
-    ensures { result ≡ by t (settle_of t s (Decrement from to o m n)) }
+pub(crate) fn settle(t: &mut Table, s: u8) -> Result<Deed, Refusal>
+    ensures { outcome_of result t.new ≡ by t.old (settle t.old s) }
 {
-    let e = t.entry_at(to, o);
-    let act = e.settled(m, n);
-    let receiver = act.entry;
-    let emptied = t.with_message(s, Message::Empty);
+    let Message::Decrement {
+        to,
+        object,
+        m,
+        n,
+        ..
+    } = t.message_at(s)
+    else {
+        return Err(Refusal::NoMessage);
+    };
+    let act = t.entry_at(to, object).settled(m, n);
     if act.refuses() {
-        return refused(t, Outcome::TORN);
+        return Err(Refusal::Torn);
     }
-    did(Deed::Settled, emptied.with_entry(to, o, receiver))
-}
-
-#[tactic(auto, unfolding(crate::specs::Settle::settle_of))]
-pub(crate) fn settle(t: Table, s: u8) -> Outcome
-    ensures { result ≡ by t (settle t s) }
-{
-    let message = t.message_at(s);
-    match message {
-        Message::Empty => refused(t, Outcome::NOMSG),
-        Message::Reference {
-            from: _,
-            to: _,
-            object: _,
-        } => refused(t, Outcome::NOMSG),
-        Message::Decrement {
-            from,
-            to,
-            object,
-            m,
-            n,
-        } => settle_decrement(t, s, from, to, object, m, n),
-    }
+    t.set_message(s, Message::Empty);
+    t.set_entry(to, object, act.entry);
+    Ok(Deed::Settled)
 }

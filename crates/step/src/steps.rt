@@ -1,30 +1,28 @@
 // One step: what any event may be refused for, then the event's own rule, and the count.
-ghost use Rattle.std.specs.Prelude.{true, ◌≡◌, ◌<◌};
-ghost use Rattle.terms.specs.Limits.{EVENTS};
+ghost use Rattle.std.specs.Prelude.{true, ◌≡◌};
 ghost use Rattle.step.specs.Event.{fits_event};
-ghost use Rattle.step.specs.Outcome.{by};
-ghost use Rattle.step.specs.Step.{rule_of, one_more, step};
+ghost use Rattle.step.specs.Outcome.{by, outcome_of};
+ghost use Rattle.step.specs.Step.{rule_of, step};
 
 use crate::collect::collect;
 use crate::drop::drop;
 use crate::fields::{load, store};
 use crate::new::new;
-use crate::outcomes::refused;
 use crate::receive::receive;
 use crate::roots::{clear_root, move_root};
 use crate::send::send;
 use crate::settle::settle;
-use crate::{Event, Kind, Outcome};
+use crate::{Deed, Event, Kind};
 use table::Table;
+use terms::Refusal;
 
 // The rule of the event's kind.
 #[tactic(auto, unfolding(crate::specs::Step::rule_for))]
-pub(crate) fn by_rule(t: Table, e: Event) -> Outcome
+pub(crate) fn by_rule(t: &mut Table, e: Event) -> Result<Deed, Refusal>
     requires { fits_event e ≡ true }
-    ensures { result ≡ by t (rule_of t e) }
+    ensures { outcome_of result t.new ≡ by t.old (rule_of t.old e) }
 {
-    let kind = Kind::of(e.kind);
-    match kind {
+    match Kind::from(e.kind) {
         Kind::New => new(t, e.a, e.b),
         Kind::Move => move_root(t, e.a, e.b, e.c),
         Kind::Clear => clear_root(t, e.a, e.b),
@@ -35,41 +33,27 @@ pub(crate) fn by_rule(t: Table, e: Event) -> Outcome
         Kind::Settle => settle(t, e.a),
         Kind::Collect => collect(t, e.a),
         Kind::Drop => drop(t, e.a, e.b),
-        Kind::Unknown => refused(t, Outcome::EVENT),
+        Kind::Unknown => Err(Refusal::Event),
     }
 }
 
-// An accepted event adds 1 to the count.
-pub(crate) fn one_more(n: u32, o: Outcome) -> Outcome
-    requires { n < EVENTS }
-    ensures { result ≡ one_more n o }
-{
-    if o.answer != Outcome::ACCEPTED {
-        return o;
-    }
-    let deed = o.deed;
-    let table = o.table;
-    Outcome {
-        answer: o.answer,
-        deed: deed,
-        table: table.with_count(n + 1),
-    }
-}
-
-// Every table and every event is answered.
+// Every table and every event is answered. An accepted event adds 1 to the count; a refused one leaves the table as it was.
 #[tactic(auto, unfolding(crate::specs::Step::step))]
-pub fn step(t: Table, e: Event) -> Outcome
-    ensures { result ≡ step t e }
+pub fn step(t: &mut Table, e: Event) -> Result<Deed, Refusal>
+    ensures { outcome_of result t.new ≡ step t.old e }
 {
     if !t.fits() {
-        return refused(t, Outcome::SHAPE);
+        return Err(Refusal::Shape);
     }
     if !e.fits() {
-        return refused(t, Outcome::EVENT);
+        return Err(Refusal::Event);
     }
+    if Table::EVENTS <= t.count {
+        return Err(Refusal::Ended);
+    }
+    // Taken before, since a rule's promise is of the whole table.
     let n = t.count;
-    if Table::EVENTS <= n {
-        return refused(t, Outcome::ENDED);
-    }
-    one_more(n, by_rule(t, e))
+    let deed = by_rule(t, e)?;
+    t.count = n + 1;
+    Ok(deed)
 }

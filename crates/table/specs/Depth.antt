@@ -1,14 +1,22 @@
 -- How far the owner is along Parent, and the report of it (document 01, law C). Definitions only; assumes nothing.
-use Rattle.std.specs.Prelude.{ℕ, zero, suc, ◌+◌, ltb, if◌then◌else◌}
+use Rattle.std.specs.Prelude.{ℕ, zero, suc, ◌+◌, ltb, if◌then◌else◌, Option, Some, None}
 use Rattle.terms.specs.Choose.{◌and◌}
 use Rattle.terms.specs.Limits.{NODES, OBJECTS, STEPS, UNREACHED}
 use Rattle.entry.specs.declared.Entry.{Entry}
 use Rattle.entry.specs.declared.Entry.TheVariants.{Absent, AtOwner, Elsewhere}
 use Rattle.table.specs.declared.Table.{Table}
-use Rattle.table.specs.declared.Depth.{Depth}
-use Rattle.table.specs.declared.Depth.TheVariants.{Steps, NotReached}
 use Rattle.table.specs.Table.{entry_at}
 use Rattle.table.specs.Shape.{fits_table}
+
+-- so many steps to the owner, or a way that does not reach it
+pub data Depth : Type 0 where
+  Steps : ℕ → Depth
+  NotReached : Depth
+
+-- the depth that a function tells: a number of steps, or none
+abbrev pub depth_of : Option ℕ → Depth
+depth_of (Some d) = Steps d
+depth_of None = NotReached
 
 -- one step further from the owner
 abbrev pub further : Depth → Depth

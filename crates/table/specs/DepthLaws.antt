@@ -1,5 +1,5 @@
 -- What the depth comes to by what stands at a node, and that it is no more than the steps allowed. Assumes nothing.
-use Rattle.std.specs.Prelude.{◌≡◌, refl}
+use Rattle.std.specs.Prelude.{◌≡◌, refl, Option, Some, None}
 use Prim.Native.Nat.{ℕ, zero, suc, ◌+◌, ◌-◌, ◌≤◌}
 use Rattle.std.proofs.Common.{sub-one, arith}
 use Rattle.entry.specs.declared.Directory.{Directory}
@@ -7,10 +7,8 @@ use Rattle.entry.specs.declared.Remote.{Remote}
 use Rattle.entry.specs.declared.Entry.{Entry}
 use Rattle.entry.specs.declared.Entry.TheVariants.{Absent, AtOwner, Elsewhere}
 use Rattle.table.specs.declared.Table.{Table}
-use Rattle.table.specs.declared.Depth.{Depth}
-use Rattle.table.specs.declared.Depth.TheVariants.{Steps, NotReached}
 use Rattle.table.specs.Table.{entry_at}
-use Rattle.table.specs.Depth.{further, onward, depth_by}
+use Rattle.table.specs.Depth.{Depth, Steps, NotReached, depth_of, further, onward, depth_by}
 
 module _ (t : Table) (o p : ℕ) where
   -- no entry, no depth
@@ -56,3 +54,10 @@ depth_by_bound (suc n) t o p d = go (entry_at t p o) (λ q. depth_by_bound n t o
     go Absent below e = let z : ◌≡◌ {A = ℕ} 0 1 = cc in absurd (omega arith)
     go (AtOwner x) below e = let q : 0 ≡ d = cc in omega arith
     go (Elsewhere x) below e = step (depth_by n t o x.parent) (below x.parent) e
+
+-- no two answers tell one depth, so what tells the depth leaves nothing open
+pub depth_of_one : (a b : Option ℕ) → depth_of a ≡ depth_of b → a ≡ b
+depth_of_one (Some a) (Some b) e = let q : a ≡ b = cc in rw q
+depth_of_one (Some a) None e = let z : ◌≡◌ {A = ℕ} 0 1 = cc in absurd (omega arith)
+depth_of_one None (Some b) e = let z : ◌≡◌ {A = ℕ} 0 1 = cc in absurd (omega arith)
+depth_of_one None None e = refl

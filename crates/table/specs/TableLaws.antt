@@ -1,5 +1,5 @@
 -- What stands where in a table of which one thing was changed: the new thing in its spot, the old ones in all others. Assumes nothing.
-use Rattle.std.specs.Prelude.{◌≡◌, ◌≢◌, [], ℕ, ◌<◌, length}
+use Rattle.std.specs.Prelude.{◌≡◌, ◌≢◌, refl, [], ℕ, ◌<◌, length, Option, Some, None, unwrap_or, IfSome}
 use Rattle.std.proofs.Common.{ap, ◌∙◌, ⊎_elim, arith, get_or-set_same, get_or-set_other}
 use Rattle.terms.specs.Limits.{NODES, OBJECTS, PLACES}
 use Rattle.entry.specs.declared.Entry.{Entry}
@@ -46,3 +46,12 @@ module _ (t : Table) (s : ℕ) (m : Message) where
   pub message_there : length t.air ≡ PLACES → s < PLACES → message_at (with_message t s m) s ≡ m
   message_there size place =
       ap (λ (x : Place). x.held) (get_or-set_same t.air s (record { held = m }) (record { held = Empty }) (omega arith))
+
+-- ---- the empty place
+
+-- no two answers tell one number up to n, so what tells the lowest empty place leaves nothing open
+pub below_one : (n : ℕ) (a b : Option ℕ) → IfSome a (λ s. s < n) → IfSome b (λ s. s < n) → unwrap_or a n ≡ unwrap_or b n → a ≡ b
+below_one n (Some a) (Some b) p q e = rw e
+below_one n (Some a) None p q e = absurd (omega arith)
+below_one n None (Some b) p q e = absurd (omega arith)
+below_one n None None p q e = refl

@@ -1,138 +1,79 @@
-// What stands where, and the table with one thing changed. A number out of range reads as nothing, and changes nothing.
-ghost use Rattle.std.specs.Prelude.{◌≡◌};
-ghost use Rattle.table.specs.Table.{entry_in, entry_at, message_at, cell_with, with_entry, with_message, with_heap, with_count, is_empty, empty_place};
+// What stands where, and one thing in the table changed. A number out of range reads as nothing, and changes nothing.
+ghost use Rattle.std.specs.Prelude.{◌≡◌, ◌<◌, unwrap_or, IfSome};
+ghost use Rattle.terms.specs.Limits.{PLACES};
+ghost use Rattle.table.specs.Table.{entry_in, entry_at, message_at, cell_with, with_entry, with_message, is_empty, empty_place};
 
-use crate::{Cell, Message, Place, Slot, Table};
+use crate::{Cell, Message, Table};
 use entry::Entry;
-use heap::Heap;
 
 impl Message {
     pub fn is_empty(self) -> bool
         ensures { result ≡ is_empty self }
     {
-        match self {
-            Message::Empty => true,
-            Message::Reference {
-                from: _,
-                to: _,
-                object: _,
-            } => false,
-            Message::Decrement {
-                from: _,
-                to: _,
-                object: _,
-                m: _,
-                n: _,
-            } => false,
-        }
+        matches!(self, Message::Empty)
     }
 }
 
 impl Cell {
     // The entry at node p.
-    pub fn entry_in(self, p: u8) -> Entry
-        ensures { result ≡ entry_in self p }
+    pub fn entry_in(&self, p: u8) -> Entry
+        ensures { result ≡ entry_in self.now p }
     {
-        if Table::NODES <= p {
-            return Entry::Absent;
-        }
-        let k = p as usize;
-        let slot = self.at[k];
-        slot.held
+        self.at
+            .get(usize::from(p))
+            .map_or(Entry::Absent, |slot| slot.held)
     }
 
-    // The cell with another entry at node p.
-    pub fn with_entry(mut self, p: u8, e: Entry) -> Cell
-        ensures { result ≡ cell_with self p e }
+    pub fn set_entry(&mut self, p: u8, e: Entry)
+        ensures { self.new ≡ cell_with self.old p e }
     {
-        if Table::NODES <= p {
-            return self;
+        // Not by `get_mut`, here and below: after it a proof knows the array's length and no element.
+        if p < Table::NODES {
+            self.at[usize::from(p)].held = e;
         }
-        let k = p as usize;
-        self.at[k] = Slot { held: e };
-        self
     }
 }
 
 impl Table {
     // The entry of object o at node p.
-    pub fn entry_at(self, p: u8, o: u8) -> Entry
-        ensures { result ≡ entry_at self p o }
+    pub fn entry_at(&self, p: u8, o: u8) -> Entry
+        ensures { result ≡ entry_at self.now p o }
     {
-        if Table::OBJECTS <= o {
-            return Entry::Absent;
-        }
-        let k = o as usize;
-        let cell = self.cells[k];
-        cell.entry_in(p)
+        self.cells
+            .get(usize::from(o))
+            .map_or(Entry::Absent, |cell| cell.entry_in(p))
     }
 
-    // The table with another entry of object o at node p.
-    pub fn with_entry(mut self, p: u8, o: u8, e: Entry) -> Table
-        ensures { result ≡ with_entry self p o e }
+    pub fn set_entry(&mut self, p: u8, o: u8, e: Entry)
+        ensures { self.new ≡ with_entry self.old p o e }
     {
-        if Table::OBJECTS <= o {
-            return self;
+        if o < Table::OBJECTS {
+            self.cells[usize::from(o)].set_entry(p, e);
         }
-        let k = o as usize;
-        let cell = self.cells[k];
-        let changed = cell.with_entry(p, e);
-        self.cells[k] = changed;
-        self
     }
 
     // The message in place s.
-    pub fn message_at(self, s: u8) -> Message
-        ensures { result ≡ message_at self s }
+    pub fn message_at(&self, s: u8) -> Message
+        ensures { result ≡ message_at self.now s }
     {
-        if Table::PLACES <= s {
-            return Message::Empty;
+        self.air
+            .get(usize::from(s))
+            .map_or(Message::Empty, |place| place.held)
+    }
+
+    pub fn set_message(&mut self, s: u8, m: Message)
+        ensures { self.new ≡ with_message self.old s m }
+    {
+        if s < Table::PLACES {
+            self.air[usize::from(s)].held = m;
         }
-        let k = s as usize;
-        let place = self.air[k];
-        place.held
     }
 
-    // The table with another message in place s.
-    pub fn with_message(mut self, s: u8, m: Message) -> Table
-        ensures { result ≡ with_message self s m }
+    // The lowest empty place.
+    pub fn empty_place(&self) -> Option<u8>
+        ensures lowest { unwrap_or result PLACES ≡ empty_place self.now }
+        ensures place { IfSome result (λ s. s < PLACES) }
     {
-        if Table::PLACES <= s {
-            return self;
-        }
-        let k = s as usize;
-        self.air[k] = Place { held: m };
-        self
-    }
-
-    pub fn with_heap(mut self, h: Heap) -> Table
-        ensures { result ≡ with_heap self h }
-    {
-        self.heap = h;
-        self
-    }
-
-    pub fn with_count(mut self, n: u32) -> Table
-        ensures { result ≡ with_count self n }
-    {
-        self.count = n;
-        self
-    }
-
-    // The lowest empty place; PLACES where none is empty.
-    pub fn empty_place(self) -> u8
-        ensures { result ≡ empty_place self }
-    {
-        let mut s: u8 = 0;
-        while s < Table::PLACES {
-            let k = s as usize;
-            let place = self.air[k];
-            let message = place.held;
-            if message.is_empty() {
-                return s;
-            }
-            s += 1;
-        }
-        s
+        (0..Table::PLACES).find(|&s| self.message_at(s).is_empty())
     }
 }

@@ -1,6 +1,9 @@
 // The shape that every table must have.
 ghost use Rattle.std.specs.Prelude.{◌≡◌};
+ghost use Rattle.terms.specs.Counted.{every};
+ghost use Rattle.terms.specs.Limits.{OBJECTS, PLACES};
 ghost use Rattle.table.specs.Shape.{fits_way, fits_message, fits_cell, fits_table};
+ghost use Rattle.table.specs.Table.{cell_at, message_at};
 
 use crate::{Cell, Message, Table};
 
@@ -9,16 +12,7 @@ impl Message {
     fn fits_way(from: u8, to: u8, object: u8) -> bool
         ensures { result ≡ fits_way from to object }
     {
-        if Table::NODES <= from {
-            return false;
-        }
-        if Table::NODES <= to {
-            return false;
-        }
-        if from == to {
-            return false;
-        }
-        object < Table::OBJECTS
+        from < Table::NODES && to < Table::NODES && from != to && object < Table::OBJECTS
     }
 
     #[tactic(auto, unfolding(crate::specs::Shape::fits_message))]
@@ -34,15 +28,7 @@ impl Message {
                 object,
                 m,
                 n,
-            } => {
-                if !Message::fits_way(from, to, object) {
-                    return false;
-                }
-                if !m.fits() {
-                    return false;
-                }
-                n.fits()
-            }
+            } => Message::fits_way(from, to, object) && m.fits() && n.fits(),
         }
     }
 }
@@ -50,54 +36,34 @@ impl Message {
 impl Cell {
     // As what is known of object o.
     #[tactic(auto, unfolding(crate::specs::Shape::fits_cell))]
-    pub fn fits(self, o: u8) -> bool
-        ensures { result ≡ fits_cell o self }
+    pub fn fits(&self, o: u8) -> bool
+        ensures { result ≡ fits_cell o self.now }
     {
-        let mut p: u8 = 0;
-        while p < Table::NODES {
-            let k = p as usize;
-            let slot = self.at[k];
-            let entry = slot.held;
-            if !entry.fits(p, o) {
-                return false;
-            }
-            p += 1;
-        }
-        true
+        (0..Table::NODES)
+            .zip(&self.at)
+            .all(|(p, slot)| slot.held.fits(p, o))
     }
 }
 
 impl Table {
-    #[tactic(auto, unfolding(crate::specs::Shape::fits_table))]
-    pub fn fits(self) -> bool
-        ensures { result ≡ fits_table self }
+    fn cells_fit(&self) -> bool
+        ensures { result ≡ every OBJECTS (λ o. fits_cell o (cell_at self.now o)) }
     {
-        if Table::EVENTS < self.count {
-            return false;
-        }
-        let heap = self.heap;
-        if !heap.fits() {
-            return false;
-        }
-        let mut o: u8 = 0;
-        while o < Table::OBJECTS {
-            let k = o as usize;
-            let cell = self.cells[k];
-            if !cell.fits(o) {
-                return false;
-            }
-            o += 1;
-        }
-        let mut s: u8 = 0;
-        while s < Table::PLACES {
-            let k = s as usize;
-            let place = self.air[k];
-            let message = place.held;
-            if !message.fits() {
-                return false;
-            }
-            s += 1;
-        }
-        true
+        (0..Table::OBJECTS)
+            .zip(&self.cells)
+            .all(|(o, cell)| cell.fits(o))
+    }
+
+    fn messages_fit(&self) -> bool
+        ensures { result ≡ every PLACES (λ s. fits_message (message_at self.now s)) }
+    {
+        self.air.iter().all(|place| place.held.fits())
+    }
+
+    #[tactic(auto, unfolding(crate::specs::Shape::fits_table))]
+    pub fn fits(&self) -> bool
+        ensures { result ≡ fits_table self.now }
+    {
+        self.count <= Table::EVENTS && self.heap.fits() && self.cells_fit() && self.messages_fit()
     }
 }

@@ -1,7 +1,7 @@
-// The field table by value: the event count, what the controllers hold, who knows of what, and the messages in the air.
+// The field table: the event count, what the controllers hold, who knows of what, and the messages in the air.
 #![tactic(auto)]
 
-mod access; // access.rt: what stands where, and the table with one thing changed
+mod access; // access.rt: what stands where, and one thing in the table changed
 mod distance; // distance.rt: how far the owner is along Parent
 mod fits; // fits.rt: the shape that every table must have
 
@@ -11,7 +11,8 @@ ghost use Rattle.table.specs.Table.{fresh_table};
 use entry::{Entry, ReturnCount, Weight};
 use heap::Heap;
 
-// What a message place holds. A decrement's return count and weight travel side by side and cannot be exchanged.
+// What a message place holds. A decrement's return count and weight travel side by side and cannot be exchanged. The way, from a node to another,
+// is no struct of its own: the definitions `fits_message` and `is_reference_of` have its numbers side by side.
 #[derive(Clone, Copy)]
 pub enum Message {
     Empty,
@@ -29,6 +30,7 @@ pub enum Message {
     },
 }
 
+// A struct, since the definitions of specs/Table.antt write `record { held = .. }`, of a slot too.
 #[derive(Clone, Copy)]
 pub struct Place {
     pub held: Message,
@@ -42,37 +44,25 @@ pub struct Slot {
 // All that is known of one object: an entry for each node, or none.
 #[derive(Clone, Copy)]
 pub struct Cell {
-    pub at: [Slot; 8],
+    pub at: [Slot; Table::NODES as usize],
 }
 
 #[derive(Clone, Copy)]
 pub struct Table {
     pub count: u32,
     pub heap: Heap,
-    pub cells: [Cell; 64],
-    pub air: [Place; 64],
-}
-
-// How far the owner is along Parent.
-#[derive(Clone, Copy)]
-pub enum Depth {
-    Steps(u8),
-    NotReached,
-}
-
-impl Depth {
-    // What the report says where there is no depth.
-    pub const UNREACHED: u8 = 255;
+    pub cells: [Cell; Table::OBJECTS as usize],
+    pub air: [Place; Table::PLACES as usize],
 }
 
 impl Table {
-    pub const NODES: u8 = 8;
+    pub const NODES: u8 = Heap::NODES;
 
-    pub const OBJECTS: u8 = 64;
+    pub const OBJECTS: u8 = Heap::OBJECTS;
 
     pub const PLACES: u8 = 64;
 
-    pub const EVENTS: u32 = 1000000000;
+    pub const EVENTS: u32 = 1_000_000_000;
 
     // The most steps from a remote entry along Parent to the owner.
     pub const STEPS: u8 = 7;
@@ -81,21 +71,17 @@ impl Table {
     pub fn fresh() -> Table
         ensures { result ≡ fresh_table }
     {
-        let heap = Heap::fresh();
-        let slot = Slot {
-            held: Entry::Absent,
-        };
-        let cell = Cell { at: [slot; 8] };
-        let cells = [cell; 64];
-        let place = Place {
-            held: Message::Empty,
-        };
-        let air = [place; 64];
         Table {
             count: 0,
-            heap: heap,
-            cells: cells,
-            air: air,
+            heap: Heap::fresh(),
+            cells: [Cell {
+                at: [Slot {
+                    held: Entry::Absent,
+                }; Table::NODES as usize],
+            }; Table::OBJECTS as usize],
+            air: [Place {
+                held: Message::Empty,
+            }; Table::PLACES as usize],
         }
     }
 }

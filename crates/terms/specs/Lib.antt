@@ -4,3 +4,4 @@ pub mod Counted
 pub mod CountedLaws
 pub mod Limits
 pub mod Numbers
+pub mod Refusals

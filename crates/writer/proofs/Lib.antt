@@ -1,4 +1,4 @@
 pub mod Behind
 pub mod InOrder
 pub mod OneByte
-pub mod Turns
+pub mod Sizes

@@ -12,8 +12,8 @@ use Rattle.entry.specs.declared.Entry.TheVariants.{Absent, AtOwner, Elsewhere}
 use Rattle.entry.specs.Entry.{is_absent, rc_of, weight_under}
 use Rattle.entry.specs.FitsLaws.{away}
 use Rattle.counting.proofs.Under.{weight_counted, height, height_falls, height_bound}
-use Rattle.table.specs.declared.Depth.{Depth}
-use Rattle.table.specs.declared.Depth.TheVariants.{Steps, NotReached}
+use Rattle.table.specs.Depth.{Depth}
+use Rattle.table.specs.Depth.{Steps, NotReached}
 use Rattle.table.specs.declared.Table.{Table}
 use Rattle.table.specs.Depth.{further, onward, depth_by, depth_number, depth_report}
 use Rattle.table.specs.DepthLaws.{depth_by_owner, depth_by_onward, depth_by_bound}

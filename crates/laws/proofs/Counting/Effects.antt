@@ -18,9 +18,9 @@ use Rattle.entry.specs.declared.Weight.{Weight}
 use Rattle.entry.specs.declared.Directory.{Directory}
 use Rattle.entry.specs.declared.Remote.{Remote}
 use Rattle.entry.specs.declared.Entry.{Entry}
-use Rattle.entry.specs.declared.DirectoryAct.{DirectoryAct}
-use Rattle.entry.specs.declared.RemoteAct.{RemoteAct}
-use Rattle.entry.specs.declared.EntryAct.{EntryAct}
+use Rattle.entry.specs.Acts.{DirectoryAct}
+use Rattle.entry.specs.Acts.{RemoteAct}
+use Rattle.entry.specs.AtNode.{EntryAct}
 use Rattle.entry.specs.declared.Entry.TheVariants.{Absent, AtOwner, Elsewhere}
 use Rattle.entry.specs.Acts.{stays, used_with, first_sent, first_received}
 use Rattle.entry.specs.Acts.{directory_sent, directory_came_home, directory_settled, remote_sent, remote_sent_home, remote_received_again, remote_settled}

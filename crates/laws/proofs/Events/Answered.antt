@@ -18,7 +18,7 @@ use Rattle.table.specs.Table.{entry_at, message_at, with_count}
 use Rattle.step.specs.declared.Event.{Event}
 use Rattle.step.specs.declared.Kind.{Kind}
 use Rattle.step.specs.declared.Kind.TheVariants.{New, Move, Clear, Load, Store, Send, Receive, Settle, Collect, Drop, Unknown}
-use Rattle.step.specs.declared.Outcome.{Outcome}
+use Rattle.step.specs.Outcome.{Outcome}
 use Rattle.step.specs.Clear.{clear}
 use Rattle.step.specs.Collect.{collect_holding, collect_keeping}
 use Rattle.step.specs.Drop.{drop_of}

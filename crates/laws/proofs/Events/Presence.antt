@@ -10,7 +10,7 @@ use Rattle.terms.specs.Numbers.{ACCEPTED}
 use Rattle.entry.specs.declared.Entry.{Entry}
 use Rattle.entry.specs.declared.Entry.TheVariants.{Absent, AtOwner, Elsewhere}
 use Rattle.entry.specs.declared.Remote.{Remote}
-use Rattle.entry.specs.declared.RemoteAct.{RemoteAct}
+use Rattle.entry.specs.Acts.{RemoteAct}
 use Rattle.entry.specs.declared.ReturnCount.{ReturnCount}
 use Rattle.entry.specs.declared.Weight.{Weight}
 use Rattle.entry.specs.Acts.{remote_received_again, remote_sent, remote_sent_home, remote_settled, stays}

@@ -19,7 +19,7 @@ use Rattle.heap.specs.Heap.{free_own, is_live}
 use Rattle.table.specs.declared.Table.{Table}
 use Rattle.table.specs.ShapeLaws.{Shaped, owner_number, shaped}
 use Rattle.table.specs.Table.{entry_at}
-use Rattle.step.specs.declared.Outcome.{Outcome}
+use Rattle.step.specs.Outcome.{Outcome}
 use Rattle.step.specs.Event.{NEW, event, fits_event, kind_of}
 use Rattle.step.specs.New.{chosen, new}
 use Rattle.step.specs.Outcome.{by, value_of}

@@ -1,6 +1,5 @@
 -- The tests that any event meets, then COLLECT or another.
-use Rattle.std.proofs.Common.{◌≡◌, ◌≢◌, ℕ, ◌<◌, List, true, get_or, sym, ap, ◌∙◌, arith}
-use Rattle.std.proofs.Math.Path.{subst}
+use Rattle.std.proofs.Common.{◌≡◌, ℕ, ◌<◌, List, true, get_or, sym, ap, ◌∙◌, arith}
 use mir.Syntax.{w8}
 use mir.Val.{Fits}
 use Rattle.terms.specs.Limits.{EVENTS}
@@ -9,18 +8,12 @@ use Rattle.image.specs.declared.Found.{Found}
 use Rattle.image.specs.Find.{count_in, found_from}
 use Rattle.image.specs.Reader.{read}
 use Rattle.splice.proofs.Accepted.{count_told}
-use Rattle.laws.proofs.Events.DidLaws.{Numbers, kind_numbers}
 use Rattle.step.specs.declared.Event.{Event}
-use Rattle.step.specs.declared.Kind.TheVariants.{Collect}
-use Rattle.step.specs.Event.{COLLECT, fits_event, kind_of}
+use Rattle.step.specs.Event.{fits_event}
 use Rattle.etzvanul.specs.Amended.{Asked, unfit_back, ended_back}
 use Rattle.plan.proofs.Slices.{slice_bytes}
 use Rattle.etzvanul.proofs.Slices.{slice_told}
 use Rattle.etzvanul.proofs.amends.amend.Goals as goal
-
--- only COLLECT's number is COLLECT's
-other_kind : (n : ℕ) → n ≢ COLLECT → kind_of n ≢ Collect
-other_kind n ne is = ne (subst (Numbers n) is (kind_numbers n))
 
 module _ (l : List ℕ) (each : (i : ℕ) → Fits w8 (get_or l i 0)) (accepted : (read l).answer ≡ ACCEPTED) where
   -- the event count that the image tells
@@ -50,17 +43,16 @@ returns-then-count-ge-EVENTS c =
     let l = a.image.now in
     let told = slice_told l c.type_inv.image c.requires in
     let fits = sym c.fits.ensures ∙ c.if-not-fits.false in
-    let many = counted l c.type_inv.image c.requires _ c.look_from-first.ensures _ c.count-count.ensures in
+    let many = counted l c.type_inv.image c.requires _ c.look_from.ensures _ c.count-count.ensures in
     ended_back l a.e a.out.now c.requires told.fits fits (omega (arith, many, c.if-count-ge-EVENTS.true))
 
 pub collect-requires : goal.collect-requires
-unfolding kind_of
 collect-requires c =
     let a = c.args in
     let fits = sym c.fits.ensures ∙ c.if-not-fits.false in
     record {
-      asked = passed a.image.now c.type_inv.image c.requires a.e fits _ c.look_from-first.ensures _ c.count-count.ensures c.if-count-ge-EVENTS.false;
-      kind_value = ap kind_of c.if-e-eq-COLLECT.true;
+      asked = passed a.image.now c.type_inv.image c.requires a.e fits _ c.look_from.ensures _ c.count-count.ensures c.if-count-ge-EVENTS.false;
+      kind = sym c.in-Collect.ensures;
     }
 
 pub change-requires : goal.change-requires
@@ -68,6 +60,6 @@ change-requires c =
     let a = c.args in
     let fits = sym c.fits.ensures ∙ c.if-not-fits.false in
     record {
-      asked = passed a.image.now c.type_inv.image c.requires a.e fits _ c.look_from-first.ensures _ c.count-count.ensures c.if-count-ge-EVENTS.false;
-      kind_nonzero = other_kind a.e.kind c.if-e-eq-COLLECT.false;
+      asked = passed a.image.now c.type_inv.image c.requires a.e fits _ c.look_from.ensures _ c.count-count.ensures c.if-count-ge-EVENTS.false;
+      other = λ is. c.in_default.not-Collect (c.from.ensures ∙ is);
     }

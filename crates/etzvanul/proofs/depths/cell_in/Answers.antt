@@ -1,13 +1,11 @@
-use Rattle.std.proofs.Common.{refl, arith}
+use Rattle.std.proofs.Common.{rules}
 use Rattle.terms.specs.Limits.{NODES}
-use Rattle.terms.proofs.ListLaws.{filled_set, filled_all}
+use Rattle.entry.specs.declared.Entry.TheVariants.{Absent}
+use Rattle.plan.specs.Plan.{entry_of}
+use Rattle.step.proofs.Lists.{list-from_fn}
 use Rattle.etzvanul.proofs.depths.cell_in.Goals as goal
 
-pub loop-p-preserved : goal.loop-p-preserved
-loop-p-preserved c = record {
-  within = omega arith;
-  filled = filled_set c.loop-p.invariant.filled _ c.loop-p-test.true (rw (c.entry.ensures, c.entry_from-found.ensures));
-}
-
 pub returns : goal.returns
-returns c = filled_all c.loop-p.invariant.filled NODES refl c.loop-p-test.false
+returns c =
+    list-from_fn _ _ (λ p. record { held = entry_of c.args.image.now p c.args.o }) (record { held = Absent }) (λ p y q call. search rules) _ NODES
+    c.from_fn.ensures.items

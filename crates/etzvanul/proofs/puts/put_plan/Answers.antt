@@ -1,49 +1,43 @@
--- The copying under way, after each change: which changes are left, and where it is in both images.
-use Rattle.std.proofs.Common.{◌∙◌, arith}
+-- The copying under way: after the event count and after each change.
+use Rattle.std.proofs.Common.{◌≡◌, ◌∙◌, refl, zero-add, arith}
 use Rattle.terms.proofs.BufferLaws.{sets_front}
+use Rattle.plan.specs.Made.{accepted_plan}
+use Rattle.etzvanul.specs.Going.{start, on, ready, rest_room, ended}
 use Rattle.etzvanul.specs.Orderly.{others}
 use Rattle.etzvanul.specs.Spliced.{new_image}
-use Rattle.etzvanul.proofs.Going.{start, begun, on, ready, rest_room, ended}
+use Rattle.etzvanul.proofs.Planning.{plan_next}
+use Rattle.etzvanul.proofs.Sweeping.{ready_next, on_next, behind}
 use Rattle.etzvanul.proofs.puts.put_plan.Goals as goal
 
-pub put_to-first-requires : goal.put_to-first-requires
-put_to-first-requires c =
+pub put_count-c-requires : goal.put_count-c-requires
+put_count-c-requires c =
     let a = c.args in
-    (omega arith, omega arith, (ready (start a.count (others a.plan) a.l.now a.out.now c.requires)).1)
+    let r = ready (start a.count (others (accepted_plan a.plan.now)) a.l.now a.out.now c.requires) in
+    (r.0, rw zero-add at r.1)
 
-pub put_change-a-requires : goal.put_change-a-requires
-put_change-a-requires c =
+pub loop-change-init : goal.loop-change-init
+loop-change-init c =
     let a = c.args in
-    ready (begun a.count (others a.plan) a.l.now a.out.now c.requires c.put_to-first.ensures)
-
-pub put_change-b-requires : goal.put_change-b-requires
-put_change-b-requires c =
-    let a = c.args in
-    let g = begun a.count (others a.plan) a.l.now a.out.now c.requires c.put_to-first.ensures in
-    ready (on g c.put_change-a.ensures)
+    on (start a.count (others (accepted_plan a.plan.now)) a.l.now a.out.now c.requires) c.put_count-c.ensures
 
 pub put_change-c-requires : goal.put_change-c-requires
 put_change-c-requires c =
-    let a = c.args in
-    let g = begun a.count (others a.plan) a.l.now a.out.now c.requires c.put_to-first.ensures in
-    ready (on (on g c.put_change-a.ensures) c.put_change-b.ensures)
+    let is = plan_next c.args.plan.now c.changes-change-items.result c.changes-change-items.ensures c.loop-change.change-index _ c.loop-change-test.true in
+    ready_next c.loop-change.invariant is refl
 
-pub put_change-d-requires : goal.put_change-d-requires
-put_change-d-requires c =
-    let a = c.args in
-    let g = begun a.count (others a.plan) a.l.now a.out.now c.requires c.put_to-first.ensures in
-    ready (on (on (on g c.put_change-a.ensures) c.put_change-b.ensures) c.put_change-c.ensures)
+pub loop-change-preserved : goal.loop-change-preserved
+loop-change-preserved c =
+    let is = plan_next c.args.plan.now c.changes-change-items.result c.changes-change-items.ensures c.loop-change.change-index _ c.loop-change-test.true in
+    on_next c.loop-change.invariant is refl c.put_change-c.ensures
 
 pub copy_part-requires : goal.copy_part-requires
 copy_part-requires c =
-    let a = c.args in
-    let g = begun a.count (others a.plan) a.l.now a.out.now c.requires c.put_to-first.ensures in
-    let g4 = on (on (on (on g c.put_change-a.ensures) c.put_change-b.ensures) c.put_change-c.ensures) c.put_change-d.ensures in
-    (rest_room g4, omega (arith, g4.orderly))
+    let last : c.loop-change.change-index ≡ 4 = omega (arith, c.loop-change.auto.change-index-end) in
+    rest_room (behind c.loop-change.invariant (rw last refl))
 
 pub returns : goal.returns
 returns c =
     let a = c.args in
-    let g = begun a.count (others a.plan) a.l.now a.out.now c.requires c.put_to-first.ensures in
-    let g4 = on (on (on (on g c.put_change-a.ensures) c.put_change-b.ensures) c.put_change-c.ensures) c.put_change-d.ensures in
-    c.copy_part.ensures ∙ ended g4 ∙ sets_front a.out.now (new_image a.count a.plan a.l.now) c.requires.1
+    let last : c.loop-change.change-index ≡ 4 = omega (arith, c.loop-change.auto.change-index-end) in
+    c.copy_part.ensures.stands ∙ ended (behind c.loop-change.invariant (rw last refl))
+    ∙ sets_front a.out.now (new_image a.count (accepted_plan a.plan.now) a.l.now) c.requires.1

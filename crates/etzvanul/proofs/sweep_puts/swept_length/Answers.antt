@@ -1,67 +1,75 @@
-use Rattle.std.proofs.Common.{sym, ◌∙◌, arith}
+-- The length under way: at the start, and after the objects. The entries keep their length.
+use Rattle.std.proofs.Common.{◌∙◌, sym, ◌+◌, arith, rules, of_calls, length}
+use Rattle.image.specs.Stored.{FULL}
 use Rattle.splice.proofs.Resumed.{from_later}
-use Rattle.etzvanul.specs.SweepOnward.{first_on, object_on, directory_on}
+use Rattle.plan.specs.Made.{accepted_sweep}
+use Rattle.etzvanul.specs.SweepOnward.{first_on}
 use Rattle.etzvanul.specs.SweptLength.{unused_all}
-use Rattle.etzvanul.proofs.Sweeping.{object_next, objects_done, directory_next, directories_done}
-use Rattle.etzvanul.proofs.Sweeping.{cut_next, measured_on, measured_next, measured_left, sweep_measured, sweep_length}
+use Rattle.etzvanul.proofs.Sweeping.{object_gives, directory_gives, directories_left, entries_left, sweep_measured, sweep_length}
 use Rattle.etzvanul.proofs.sweep_puts.swept_length.Goals as goal
 
-pub loop-i-init : goal.loop-i-init
-loop-i-init c = record {
-  within = omega arith;
-  measured = sweep_measured c.args.l.now c.args.p c.args.s c.requires.l_len_bound;
-  onward = first_on c.requires.resumes;
-}
-
-pub length_with-n-requires : goal.length_with-n-requires
-length_with-n-requires c =
+pub length_changes-n-requires : goal.length_changes-n-requires
+length_changes-n-requires c =
     let a = c.args in
-    let m = c.loop-i.invariant.measured in
-    (omega (arith, m.lasting.small), cut_next m (object_next a.l.now a.p a.s c.loop-i.i c.loop-i-test.true) c.object_gone-c.ensures)
+    let s = accepted_sweep a.s.now in (
+      a.l.now,
+      _,
+      _,
+      length a.l.now,
+      _,
+      FULL,
+      directories_left a.l.now a.p s 0,
+      record {
+        gives = object_gives c.requires.resumes (λ from k lt scan. search rules) (λ from k x lt scan post. search (rules, of_calls));
+        scan = first_on c.requires.resumes;
+        measured = sweep_measured a.l.now a.p s c.requires.l_len_bound;
+        small = omega arith;
+      },
+    )
 
-pub loop-i-preserved : goal.loop-i-preserved
-loop-i-preserved c =
+pub length_changes-n-requires-2 : goal.length_changes-n-requires-2
+length_changes-n-requires-2 c =
     let a = c.args in
-    let lt = c.loop-i-test.true in
-    let is = c.object_gone-c.ensures in
-    record {
-      within = omega arith;
-      measured = measured_on c.loop-i.invariant.measured (object_next a.l.now a.p a.s c.loop-i.i lt) is c.length_with-n.ensures (omega arith);
-      onward = object_on c.requires.resumes c.place_after-at.ensures c.loop-i.i lt is c.loop-i.invariant.onward;
-    }
-
-pub loop-k-init : goal.loop-k-init
-loop-k-init c =
-    let a = c.args in
-    let inv = c.loop-i.invariant in
-    record {
-      within = omega arith;
-      measured = measured_next inv.measured (objects_done a.l.now a.p a.s c.loop-i.i c.loop-i-test.false) (omega arith);
-      onward = from_later a.l.now c.loop-i.at _ _ (omega arith) inv.onward;
-    }
-
-pub length_with-n-requires-in-loop-k : goal.length_with-n-requires-in-loop-k
-length_with-n-requires-in-loop-k c =
-    let a = c.args in
-    let m = c.loop-k.invariant.measured in
-    (omega (arith, m.lasting.small), cut_next m (directory_next a.l.now a.p a.s c.loop-k.k c.loop-k-test.true) c.directory_gone-c.ensures)
-
-pub loop-k-preserved : goal.loop-k-preserved
-loop-k-preserved c =
-    let a = c.args in
-    let lt = c.loop-k-test.true in
-    let is = c.directory_gone-c.ensures in
-    record {
-      within = omega arith;
-      measured =
-          measured_on c.loop-k.invariant.measured (directory_next a.l.now a.p a.s c.loop-k.k lt) is c.length_with-n-in-loop-k.ensures
-          (omega arith);
-      onward = directory_on c.requires.resumes c.place_after-at-in-loop-k.ensures c.loop-k.k lt is c.loop-k.invariant.onward;
-    }
+    let s = accepted_sweep a.s.now in
+    let objects =
+    c.length_changes-n.ensures a.l.now _ _ (length a.l.now) _ FULL (directories_left a.l.now a.p s 0) (record {
+      gives = object_gives c.requires.resumes (λ from k lt scan. search rules) (λ from k x lt scan post. search (rules, of_calls));
+      scan = first_on c.requires.resumes;
+      measured = sweep_measured a.l.now a.p s c.requires.l_len_bound;
+      small = omega arith;
+    }) in (
+      a.l.now,
+      _,
+      _,
+      length a.l.now,
+      _,
+      FULL + 160,
+      entries_left a.l.now a.p s 0,
+      record {
+        gives = directory_gives c.requires.resumes (λ from k lt scan. search rules) (λ from k x lt scan post. search (rules, of_calls));
+        scan = from_later a.l.now c.length_changes-n.result.1 _ _ (omega arith) objects.1;
+        measured = objects.0;
+        small = omega arith;
+      },
+    )
 
 pub returns : goal.returns
 returns c =
     let a = c.args in
-    let none = directories_done a.l.now a.p a.s c.loop-k.k c.loop-k-test.false in
-    let n = sym (unused_all c.requires.resumes c.loop-k.n) ∙ measured_left c.loop-k.invariant.measured none in
-    λ count. n ∙ sweep_length a.l.now a.p a.s c.requires.l_len_bound count
+    let s = accepted_sweep a.s.now in
+    let objects =
+    c.length_changes-n.ensures a.l.now _ _ (length a.l.now) _ FULL (directories_left a.l.now a.p s 0) (record {
+      gives = object_gives c.requires.resumes (λ from k lt scan. search rules) (λ from k x lt scan post. search (rules, of_calls));
+      scan = first_on c.requires.resumes;
+      measured = sweep_measured a.l.now a.p s c.requires.l_len_bound;
+      small = omega arith;
+    }) in
+    let directories =
+    c.length_changes-n-2.ensures a.l.now _ _ (length a.l.now) _ (FULL + 160) (entries_left a.l.now a.p s 0) (record {
+      gives = directory_gives c.requires.resumes (λ from k lt scan. search rules) (λ from k x lt scan post. search (rules, of_calls));
+      scan = from_later a.l.now c.length_changes-n.result.1 _ _ (omega arith) objects.1;
+      measured = objects.0;
+      small = omega arith;
+    }) in
+    λ count. sym (unused_all c.requires.resumes c.length_changes-n-2.result.0) ∙ directories.0.left
+    ∙ sweep_length a.l.now a.p s c.requires.l_len_bound count

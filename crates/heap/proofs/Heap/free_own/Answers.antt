@@ -1,23 +1,17 @@
-use Rattle.std.proofs.Common.{◌+◌, ◌*◌, ap, sym, ◌∙◌, not, arith}
+use Rattle.std.proofs.Common.{◌+◌, ◌*◌, not, ap, sym, arith, rules, tests}
 use Rattle.terms.specs.Limits.{OWNED}
-use Rattle.terms.proofs.CountedLaws.{lowest_from_passes, lowest_from_fails, lowest_from_none}
+use Rattle.terms.proofs.CountedLaws.{lowest_from_passes}
+use Rattle.heap.specs.Heap.{is_live}
 use Rattle.heap.proofs.HeapLaws.{not_live}
+use Rattle.terms.proofs.ChainLaws.{find-lowest}
 use Rattle.heap.proofs.Heap.free_own.Goals as goal
 
-pub returns-then-p-ge-NODES : goal.returns-then-p-ge-NODES
-returns-then-p-ge-NODES c =
-    let first = ap not (not_live c.args.self (OWNED * c.args.p + 0) (omega arith)) in
+pub returns-else-p-lt-NODES-clause-lowest : goal.returns-else-p-lt-NODES-clause-lowest
+returns-else-p-lt-NODES-clause-lowest c =
+    let first = ap not (not_live c.args.self.now (OWNED * c.args.p + 0) (omega arith)) in
     sym (lowest_from_passes {i = 0} {n = OWNED} (omega arith) _ first)
 
-pub returns-then-not-is_live : goal.returns-then-not-is_live
-returns-then-not-is_live c =
-    let passes = ap not (sym c.is_live.ensures ∙ c.if-not-is_live.true) in
-    sym (c.loop-free.invariant.1 ∙ lowest_from_passes c.loop-free-test.true _ passes)
-
-pub loop-free-preserved : goal.loop-free-preserved
-loop-free-preserved c =
-    let fails = ap not (sym c.is_live.ensures ∙ c.if-not-is_live.false) in
-    (omega arith, c.loop-free.invariant.1 ∙ lowest_from_fails c.loop-free-test.true _ fails)
-
-pub returns : goal.returns
-returns c = sym (c.loop-free.invariant.1 ∙ lowest_from_none c.loop-free-test.false _)
+pub returns-then-p-lt-NODES-clause-lowest : goal.returns-then-p-lt-NODES-clause-lowest
+returns-then-p-lt-NODES-clause-lowest c =
+    let free = λ (k : _). not (is_live c.args.self.now (OWNED * c.args.p + k)) in
+    find-lowest OWNED free _ _ c.find.result c.find.ensures.ran (λ k b q e. search (rules, tests))

@@ -9,4 +9,4 @@ pub plan_for-requires : goal.plan_for-requires
 unfolding fits_event
 plan_for-requires c = λ new.
     let fits : fits_event c.args.e ≡ true = sym c.fits.ensures ∙ c.if-not-fits.false in
-    (below (ranges_of New) c.args.e (rw (sym c.of.ensures ∙ new) at fits)).a
+    (below (ranges_of New) c.args.e (rw (sym c.from.ensures ∙ new) at fits)).a

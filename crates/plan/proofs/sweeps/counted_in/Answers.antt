@@ -12,9 +12,8 @@ loop-k-preserved c =
     let at = own_position c.args.p c.loop-k.k c.loop-k-test.true in
     let found = found_on _ (rw at c.loop-k.invariant.scan) c.entry_from-found.ensures in
     record {
-      low = omega arith;
       scan = from_found _ (slice_bytes c.args.image.now c.type_inv.image) _ _ found _ (rw at (omega arith));
-      tests = filled_set c.loop-k.invariant.tests _ c.loop-k-test.true (rw (c.is_clear.ensures, c.entry-e.ensures, found));
+      tests = rw c.from.ensures (filled_set c.loop-k.invariant.tests _ c.loop-k-test.true (rw (c.is_clear.ensures, c.entry.ensures, found)));
     }
 
 pub returns : goal.returns

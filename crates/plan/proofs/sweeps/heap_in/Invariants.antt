@@ -1,7 +1,7 @@
 -- The invariants: the objects below `o`, then the roots below `p`, are as the image tells, and the scan may go on at `at`.
-use Rattle.std.proofs.Common.{◌≡◌, ◌-◌, ◌≤◌}
+use Rattle.std.proofs.Common.{◌≡◌}
 use Rattle.terms.specs.Counted.{list}
-use Rattle.terms.specs.Limits.{NODES, OBJECTS}
+use Rattle.terms.specs.Limits.{OBJECTS}
 use Rattle.terms.proofs.ListLaws.{Filled}
 use Rattle.heap.specs.Heap.{fresh_heap, idle}
 use Rattle.image.specs.Find.{no_roots}
@@ -12,22 +12,14 @@ use Rattle.plan.proofs.sweeps.heap_in.Given as goal
 
 abbrev pub invariant-loop-o : goal.invariant-loop-o
 invariant-loop-o l = record {
-  low : l.o ≤ OBJECTS;
   scan : From l.image l.at (position 1 l.o);
   objects : Filled idle (object_of l.image) fresh_heap.objects l.o l.h.objects;
   roots : l.h.roots ≡ fresh_heap.roots;
 }
 
-abbrev pub decreases-loop-o : goal.decreases-loop-o
-decreases-loop-o l = OBJECTS - l.o
-
 abbrev pub invariant-loop-p : goal.invariant-loop-p
 invariant-loop-p l = record {
-  low : l.p ≤ NODES;
   scan : From l.image l.at (position 2 l.p);
   objects : l.h.objects ≡ list OBJECTS (object_of l.image);
   roots : Filled no_roots (roots_of l.image) fresh_heap.roots l.p l.h.roots;
 }
-
-abbrev pub decreases-loop-p : goal.decreases-loop-p
-decreases-loop-p l = NODES - l.p

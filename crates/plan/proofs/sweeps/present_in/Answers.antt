@@ -17,13 +17,13 @@ loop-o-preserved c = elim c.if-p-o.branch [
       let found = found_on _ (rw at c.loop-o.invariant.scan) w.entry_from-found.ensures in
       let bytes = slice_bytes c.args.image.now c.type_inv.image in
       let away = ne_eqb (owner c.loop-o.o) c.args.p (λ e. w.if-p-o.true (sym e)) in
-      let written = filled_set c.loop-o.invariant.marks w.is_present.result c.loop-o-test.true (rw (w.is_present.ensures, w.entry-e.ensures, found, away)) in
-      rw (w.seen-is, w.at-is) (record { low = omega arith; scan = from_found _ bytes _ _ found _ (rw at (omega arith)); marks = written })
+      let written = filled_set c.loop-o.invariant.marks w.is_present.result c.loop-o-test.true (rw (w.is_present.ensures, w.entry.ensures, found, away)) in
+      rw (w.seen-is, w.from.ensures, w.at-is) (record { scan = from_found _ bytes _ _ found _ (rw at (omega arith)); marks = written })
   | else-p-o w ↦
       let on = from_later _ c.loop-o.at _ (position 4 (256 * c.args.p + (c.loop-o.o + 1))) (omega arith) c.loop-o.invariant.scan in
       let own = eq-eqb (owner c.loop-o.o) c.args.p (sym w.if-p-o.false) in
       let kept = filled_keep c.loop-o.invariant.marks (rw own (get_or-replicate OBJECTS c.loop-o.o false false c.loop-o-test.true)) in
-      rw (w.seen-is, w.at-is) (record { low = omega arith; scan = on; marks = kept })
+      rw (w.seen-is, w.at-is) (record { scan = on; marks = kept })
 ]
 
 pub returns : goal.returns

@@ -1,19 +1,13 @@
-use Rattle.std.proofs.Common.{refl, arith}
+use Rattle.std.proofs.Common.{false, rules}
 use Rattle.terms.specs.Limits.{OBJECTS}
-use Rattle.terms.proofs.ListLaws.{filled_set, filled_all}
+use Rattle.step.specs.CollectParts.{reclaims, is_unused}
+use Rattle.step.proofs.Lists.{list-from_fn}
 use Rattle.plan.proofs.sweeps.swept.Goals as goal
-
-pub loop-o-preserved : goal.loop-o-preserved
-loop-o-preserved c = record {
-  low = omega arith;
-  gone = filled_set c.loop-o.invariant.gone _ c.loop-o-test.true c.is_reclaimed.ensures;
-  unused = filled_set c.loop-o.invariant.unused _ c.loop-o-test.true (rw (← c.held-held.ensures) c.is_unused.ensures);
-}
 
 pub returns : goal.returns
 returns c =
-    rw (
-      c.reclaimed.ensures,
-      filled_all c.loop-o.invariant.gone OBJECTS refl c.loop-o-test.false,
-      filled_all c.loop-o.invariant.unused OBJECTS refl c.loop-o-test.false,
-    )
+    let s = c.args.collection.now in
+    let gone = list-from_fn _ _ (reclaims s.heap s.node s.kept.seen) false (λ o y q call. search rules) _ OBJECTS c.from_fn.ensures.items in
+    let unused =
+    list-from_fn _ _ (is_unused s.node s.present.seen s.held.seen) false (λ o y q call. search rules) _ OBJECTS c.from_fn-2.ensures.items in
+    rw (c.reclaimed.ensures, gone, unused)

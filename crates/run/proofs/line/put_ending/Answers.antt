@@ -1,8 +1,8 @@
 use Rattle.std.proofs.Common.{arith}
-use Rattle.run.specs.Buffer.{Room}
+use Rattle.run.specs.Buffer.{RoomFor}
 use Rattle.run.specs.Run.{ending}
 use Rattle.run.proofs.Lengths.{FitsSummary, ending_most}
-use Rattle.run.proofs.Written.{room_rest}
+use Rattle.run.proofs.Written.{room_after}
 use Rattle.run.proofs.line.put_ending.Goals as goal
 
 pub put_last_line-requires : goal.put_last_line-requires
@@ -16,5 +16,6 @@ put_last_line-requires c =
       sent = omega arith;
       saved = omega arith;
     } in
-    let whole : Room c.args.out.now c.args.at (ending s c.args.front) = record { fits = omega (arith, ending_most s fits c.args.front) } in
-    room_rest c.put_stop-last.ensures whole
+    let t = c.args.text.now in
+    let whole : RoomFor t (ending s c.args.front) = record { fits = omega (arith, ending_most s fits c.args.front) } in
+    room_after c.put_stop.ensures whole

@@ -1,10 +1,10 @@
--- The invariant: what is left behind the blanks is the same from `i` on.
-use Rattle.std.proofs.Common.{◌≡◌, ◌-◌, length, drop}
+-- The invariant: what stands behind the blanks is the same.
+use Rattle.std.proofs.Common.{◌≡◌, length}
 use Rattle.scenario.specs.Line.{skipped}
 use Rattle.scenario.proofs.numbers.skip.Given as goal
 
-abbrev pub invariant-loop-i : goal.invariant-loop-i
-invariant-loop-i l = skipped (drop l.at l.l) ≡ skipped (drop l.i l.l)
+abbrev pub invariant-loop-rest : goal.invariant-loop-rest
+invariant-loop-rest l = skipped l.l ≡ skipped l.rest
 
-abbrev pub decreases-loop-i : goal.decreases-loop-i
-decreases-loop-i l = length l.l - l.i
+abbrev pub decreases-loop-rest : goal.decreases-loop-rest
+decreases-loop-rest l = length l.rest

@@ -1,7 +1,9 @@
-use Rattle.std.proofs.Common.{refl}
+use Rattle.std.proofs.Common.{false, rules}
 use Rattle.terms.specs.Limits.{OBJECTS}
-use Rattle.terms.proofs.ListLaws.{filled_all}
+use Rattle.entry.specs.Entry.{is_present}
+use Rattle.table.specs.Table.{entry_at}
+use Rattle.step.proofs.Lists.{list-from_fn}
 use Rattle.step.proofs.collect.present.Goals as goal
 
 pub returns : goal.returns
-returns c = filled_all c.loop-o.invariant.1 OBJECTS refl c.loop-o-test.false
+returns c = list-from_fn _ _ (λ o. is_present (entry_at c.args.t.now c.args.p o)) false (λ k y q call. search rules) _ OBJECTS c.from_fn.ensures.items

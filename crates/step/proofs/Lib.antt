@@ -1,0 +1,3 @@
+pub mod CollectionLaws
+pub mod KindLaws
+pub mod Lists

@@ -1,8 +1,0 @@
-use Rattle.std.proofs.Common.{arith}
-use Rattle.image.specs.Writer.{bytes_of_all}
-use Rattle.writer.proofs.Behind.{◌then◌, whole}
-use Rattle.writer.proofs.entry_records.put_owners.Goals as goal
-
-pub returns : goal.returns
-unfolding bytes_of_all
-returns c = whole (c.store_head-a.ensures then c.store_byte-b.ensures then c.store_number-c.ensures then c.store_returns.ensures) (omega arith)
