@@ -1,35 +1,54 @@
 -- Each public promise determines what comes of a call: any two results that meet it are equal, for every input, refused ones as well (document 01,
 -- "What shuts out a hollow build"). A promise is a condition on results. Nearly every one names its result, `r ≡ definition`, and `named` is the
 -- theorem of all of these; the others, and the calls that a host, a run or a scenario goes through, stand below it. Assumes nothing.
-use Rattle.std.specs.Prelude.{◌≡◌, refl, Bool, List, [], ◌∷◌, ◌++◌, ℕ, length}
+use Rattle.std.specs.Prelude.{◌≡◌, refl, Bool, List, [], ◌∷◌, ◌++◌, ℕ, ◌<◌, length, ⊤, Option, Result, IfOk, IfSome, unwrap_or}
 use Rattle.std.proofs.Common.{sym, ap, ap₂, ◌∙◌}
 use Rattle.terms.specs.Counted.{holds, list}
-use Rattle.terms.specs.Limits.{OBJECTS}
+use Rattle.terms.specs.Limits.{OBJECTS, OWNED, PLACES}
+use Rattle.terms.specs.Refusals.{answer_of}
+use Rattle.terms.specs.declared.Refusal.{Refusal}
+use Rattle.entry.specs.declared.Act.{Act}
 use Rattle.entry.specs.declared.Entry.{Entry}
 use Rattle.entry.specs.declared.ReturnCount.{ReturnCount}
 use Rattle.entry.specs.declared.Weight.{Weight}
+use Rattle.entry.specs.Acts.{Acted, told}
 use Rattle.lent.specs.Lent.{lent}
 use Rattle.heap.specs.declared.Heap.{Heap}
 use Rattle.heap.specs.declared.Marks.{Marks}
-use Rattle.heap.specs.Heap.{fresh_heap, roots_of}
+use Rattle.heap.specs.Heap.{free_own, fresh_heap, roots_of}
 use Rattle.heap.specs.Walk.{held_by, owned_by, pointed, reached}
 use Rattle.table.specs.declared.Cell.{Cell}
 use Rattle.table.specs.Depth.{Depth}
 use Rattle.table.specs.declared.Table.{Table}
-use Rattle.table.specs.Depth.{depth}
-use Rattle.table.specs.Table.{cell_at}
+use Rattle.table.specs.Depth.{depth, depth_of}
+use Rattle.table.specs.Table.{cell_at, empty_place}
+use Rattle.step.specs.declared.Deed.{Deed}
 use Rattle.step.specs.declared.Event.{Event}
 use Rattle.step.specs.Outcome.{Outcome}
-use Rattle.step.specs.Outcome.{value_of}
+use Rattle.step.specs.Deed.{deed_of}
+use Rattle.step.specs.Outcome.{outcome_of, value_of}
+use Rattle.step.specs.Receive.{receipt}
 use Rattle.step.specs.Step.{step}
+use Rattle.image.specs.declared.Loaded as kept
+use Rattle.image.specs.Check.{check}
 use Rattle.image.specs.Reader.{Loaded}
 use Rattle.image.specs.Writer as image
-use Rattle.image.specs.Reader.{read}
+use Rattle.image.specs.Reader.{loaded_of, read}
+use Rattle.run.specs.declared.Told.{Told}
 use Rattle.run.specs.Ran.{Ran}
-use Rattle.run.specs.Ran.{ran, run_bytes}
+use Rattle.run.specs.Ran.{ran, ran_of, run_bytes}
+use Rattle.scenario.specs.declared.Unwritten.{Unwritten}
 use Rattle.scenario.specs.Written as scenario
+use Rattle.scenario.specs.Records as records
 use Rattle.scenario.specs.Records.{buffer_of, written_of}
+use Rattle.plan.specs.declared.Plan.{Plan}
+use Rattle.plan.specs.declared.Sweep.{Sweep}
+use Rattle.plan.specs.Made.{plan_made, sweep_made}
+use Rattle.plan.specs.Plan.{plan_of}
+use Rattle.plan.specs.Sweep.{sweep_of}
 use Rattle.etzvanul.specs.HostCall.{host_bytes, host_number, start_bytes, start_number}
+use Rattle.cases.specs.HandedBack.{OneToOne, told_one, answer_of_one, unwrap_or_one, depth_of_one, deed_of_one, outcome_of_one}
+use Rattle.cases.specs.HandedBack.{loaded_of_one, written_of_one, ran_of_one, scenario_one, plan_made_one, sweep_made_one}
 
 -- ---- what is meant
 
@@ -127,3 +146,90 @@ settle_determined e m n = both_named (lent e m n).refusal (lent e m n).entry
 pub events_determined : (text out : List ℕ)
     → Determined (λ (l : Left scenario.Written (List ℕ)). (l.back ≡ written_of text (length out)) × (l.lent ≡ buffer_of text out))
 events_determined text out = both_named (written_of text (length out)) (buffer_of text out)
+
+-- ---- the code's own results, which a promise tells through a definition that is one-to-one (specs/HandedBack.antt)
+
+-- a promise of what the result stands for
+pub through : {R M : Type 0} (f : R → M) → OneToOne f → (m : M) → Determined (λ (r : R). f r ≡ m)
+through f one m r s p q = one r s (p ∙ sym q)
+
+-- both parts the same
+pub left_same : {R L : Type 0} (r s : Left R L) → r.back ≡ s.back → r.lent ≡ s.lent → r ≡ s
+left_same {R} {L} r s = ap₂ (λ (x : R) (y : L). record { back = x; lent = y })
+
+-- and a promise of what is left of what was lent
+pub both_through : {R L M : Type 0} (f : R → M) → OneToOne f → (m : M) (after : L)
+    → Determined (λ (l : Left R L). (f l.back ≡ m) × (l.lent ≡ after))
+both_through f one m after r s p q = left_same r s (through f one m r.back s.back p.0 q.0) (named after r.lent s.lent p.1 q.1)
+
+-- each act on an entry, a directory or a remote entry: refusal and entry
+pub act_result : {E : Type 0} (a : Acted E) → Determined (λ (r : Act E). told r ≡ a)
+act_result = through told told_one
+
+-- `lent::settle`: refused or not, and the entry
+pub settle_result : (e : Entry) (m : ReturnCount) (n : Weight)
+    → Determined (λ (l : Left (Result ⊤ Refusal) Entry). (answer_of l.back ≡ (lent e m n).refusal) × (l.lent ≡ (lent e m n).entry))
+settle_result e m n = both_through answer_of answer_of_one (lent e m n).refusal (lent e m n).entry
+
+-- `Heap::free_own`
+pub free_own_result : (h : Heap) (p : ℕ) → Determined (λ (r : Option ℕ). (unwrap_or r OWNED ≡ free_own h p) × IfSome r (λ k. k < OWNED))
+free_own_result h p r s a b = unwrap_or_one OWNED r s a.1 b.1 (a.0 ∙ sym b.0)
+
+-- `Table::empty_place`
+pub empty_place_result : (t : Table) → Determined (λ (r : Option ℕ). (unwrap_or r PLACES ≡ empty_place t) × IfSome r (λ s. s < PLACES))
+empty_place_result t r s a b = unwrap_or_one PLACES r s a.1 b.1 (a.0 ∙ sym b.0)
+
+-- `Cell::depth`
+pub cell_depth_result : (c : Cell) (p : ℕ) → Determined (λ (r : Option ℕ). (t : Table) (o : ℕ) → cell_at t o ≡ c → depth_of r ≡ depth t p o)
+cell_depth_result c p r s a b = depth_of_one r s (depth_determined c p (depth_of r) (depth_of s) a b)
+
+-- `Table::depth`
+pub depth_result : (t : Table) (p o : ℕ) → Determined (λ (r : Option ℕ). depth_of r ≡ depth t p o)
+depth_result t p o = through depth_of depth_of_one (depth t p o)
+
+-- `step`: the deed or the refusal, and the table
+pub step_result : (t : Table) (e : Event) → Determined (λ (l : Left (Result Deed Refusal) Table). outcome_of l.back l.lent ≡ step t e)
+step_result t e r s p q =
+    let same = outcome_of_one r.back s.back r.lent s.lent (p ∙ sym q) in left_same r s same.0 same.1
+
+-- `receipt`
+pub receipt_result : (s from : ℕ) (e : Entry) → Determined (λ (r : Deed). deed_of r ≡ receipt s from e)
+receipt_result s from e = through deed_of deed_of_one (receipt s from e)
+
+-- `read`
+pub read_result : (bytes : List ℕ) → Determined (λ (r : kept.Loaded). loaded_of r ≡ read bytes)
+read_result bytes = through loaded_of loaded_of_one (read bytes)
+
+-- `check`
+pub check_result : (bytes : List ℕ) → Determined (λ (r : Result ⊤ Refusal). answer_of r ≡ check bytes)
+check_result bytes = through answer_of answer_of_one (check bytes)
+
+-- what a write hands back, in the words of its promise
+abbrev pub write_told : Left (Result ℕ Refusal) (List ℕ) → Left image.Written (List ℕ)
+write_told l = record { back = image.written_of l.back; lent = l.lent }
+
+-- `write` and `put_image`: the length or the refusal, and the buffer
+pub written_result : (answer size : ℕ) (bytes : List ℕ) → Determined (λ (l : Left (Result ℕ Refusal) (List ℕ)). Tells answer size bytes (write_told l))
+written_result answer size bytes r s p q =
+    left_same r s
+    (written_of_one r.back s.back (ap₂ (λ (a n : ℕ). record { answer = a; length = n }) (p.number ∙ sym q.number) (p.length ∙ sym q.length)))
+    (p.buffer ∙ sym q.buffer)
+
+-- `run`: the length and the summary or the refusal, and the bytes
+pub run_result : (input out : List ℕ)
+    → Determined (λ (l : Left (Result Told Refusal) (List ℕ)). (ran_of l.back ≡ ran input out) × (l.lent ≡ run_bytes input out))
+run_result input out = both_through ran_of ran_of_one (ran input out) (run_bytes input out)
+
+-- `write_events`: the length or why nothing is written, and the bytes
+pub events_result : (text out : List ℕ)
+    → Determined (λ (l : Left (Result ℕ Unwritten) (List ℕ)). (records.answer_of l.back ≡ written_of text (length out)) × (l.lent ≡ buffer_of text out))
+events_result text out = both_through records.answer_of scenario_one (written_of text (length out)) (buffer_of text out)
+
+-- `plan_of`
+pub plan_result : (l : List ℕ) (e : Event) → Determined (λ (r : Result Plan Refusal). plan_made r ≡ plan_of l e)
+plan_result l e = through plan_made plan_made_one (plan_of l e)
+
+-- `sweep_of`
+pub sweep_result : (l : List ℕ) (p : ℕ)
+    → Determined (λ (r : Result Sweep Refusal). (sweep_made r ≡ sweep_of l p) × IfOk r (λ s. s.node ≡ p))
+sweep_result l p r s a b = sweep_made_one p r s a.1 b.1 (a.0 ∙ sym b.0)

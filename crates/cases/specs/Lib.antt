@@ -2,6 +2,7 @@ pub mod Determined
 pub mod Edges
 pub mod Errors
 pub mod FourBytes
+pub mod HandedBack
 pub mod Images
 pub mod Rules
 pub mod Soundness

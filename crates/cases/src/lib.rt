@@ -1,2 +1,2 @@
-// Cases of document 01, proved of the definitions by computation. All of it stands in specs/.
+// Cases of the rules, proved of the definitions by computation. All of it stands in specs/.
 #![tactic(auto)]

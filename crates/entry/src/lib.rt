@@ -52,8 +52,7 @@ pub struct Act<E> {
 }
 
 impl Entry {
-    pub const NODES: u8 = 8;
+    pub const NODES: u8 = terms::NODES;
 
-    // Objects that one node owns.
-    pub const OWNED: u8 = 8;
+    pub const OWNED: u8 = terms::OWNED;
 }

@@ -8,7 +8,7 @@ use crate::{ReturnCount, Weight};
 
 impl ReturnCount {
     // The most that a return count may be.
-    pub const MOST: i32 = 1000000000;
+    pub const MOST: i32 = 1_000_000_000;
 
     // The least that a directory's may be.
     pub const LEAST: i32 = -ReturnCount::MOST;
@@ -53,7 +53,7 @@ impl ReturnCount {
 
 impl Weight {
     // The most that a weight or a count of references may be.
-    pub const MOST: u32 = 1000000000;
+    pub const MOST: u32 = 1_000_000_000;
 
     // Whether a remote entry or a decrement may hold it.
     pub fn fits(self) -> bool

@@ -4,6 +4,7 @@ use Rattle.std.specs.Prelude.{◌≡◌, refl, List, [], ◌∷◌, ◌++◌, �
 use Rattle.std.proofs.Common.{sym, ap, ◌∙◌, arith}
 use Rattle.std.proofs.Math.Path.{subst}
 use Rattle.std.proofs.lemmas.List.Edits.{sets}
+use mathlib.Core.List.{append-nil}
 use Rattle.terms.specs.Counted.{list_from}
 use Rattle.terms.proofs.CountedLaws.{list_from_first, list_from_none}
 use Rattle.terms.specs.Limits.{OBJECTS, OWNED}
@@ -11,13 +12,14 @@ use Rattle.image.specs.declared.Held.TheVariants as h
 use Rattle.image.specs.Order.{position}
 use Rattle.image.specs.Stored.{FULL}
 use Rattle.splice.specs.Onward.{From}
+use Rattle.splice.proofs.Resumed.{from_later}
 use Rattle.plan.specs.declared.Replacement.{Replacement}
 use Rattle.plan.specs.Made.{change_of}
 use Rattle.plan.specs.Change.{Change, To, Sweep}
 use Rattle.etzvanul.specs.declared.Cursor.{Cursor}
 use Rattle.etzvanul.specs.Orderly.{Orderly, Cuts, Moved, passed, put, length_with, length_after, counted_length}
 use Rattle.plan.specs.Sweep.{object_gone, directory_gone, entry_unused, sweep_changes}
-use Rattle.etzvanul.specs.InTurn.{Gives}
+use Rattle.etzvanul.specs.InTurn.{Gives, Puts}
 use Rattle.etzvanul.specs.SweepOnward.{Resumes, first_on, object_on, directory_on, entry_on}
 use Rattle.etzvanul.specs.Spliced.{swept_image}
 use Rattle.etzvanul.specs.Going.{Going, ready, on, start, Lasting, taken, lasting_on, Measured}
@@ -153,4 +155,37 @@ module _ {l : List ℕ} {p : ℕ} {s : Sweep} (r : Resumes l p s) {pre : ℕ →
     asked = asked;
     given = given;
     onward = λ from o lt scan. entry_on r {x = entry_unused l p s.unused o} refl o lt refl scan;
+  }
+
+  -- so the copying goes on with each kind of change where the last kind ended
+  pub object_puts : {whole : List ℕ} {c : Cursor} {out : List ℕ}
+      → Going whole l (objects_left l p s 0) c.from c.to out × From l c.from (position 1 (OWNED * p + 0))
+      → ((from k : ℕ) → k < OWNED → From l from (position 1 (OWNED * p + k)) → pre from k)
+      → ((from k : ℕ) (x : Option Replacement) → k < OWNED → From l from (position 1 (OWNED * p + k)) → post from k x
+      → change_of x ≡ object_gone l p s.gone k)
+      → Puts l OWNED pre post (object_gone l p s.gone) (λ k. position 1 (OWNED * p + k)) whole (directories_left l p s 0) c out
+  object_puts at asked given = record { gives = object_gives asked given; scan = at.1; going = at.0 }
+
+  pub directory_puts : {whole : List ℕ} {c : Cursor} {out : List ℕ}
+      → Going whole l (directories_left l p s 0) c.from c.to out × From l c.from (position 1 (OWNED * p + OWNED))
+      → ((from k : ℕ) → k < OWNED → From l from (position 3 (OWNED * p + k)) → pre from k)
+      → ((from k : ℕ) (x : Option Replacement) → k < OWNED → From l from (position 3 (OWNED * p + k)) → post from k x
+      → change_of x ≡ directory_gone l p s.gone k)
+      → Puts l OWNED pre post (directory_gone l p s.gone) (λ k. position 3 (OWNED * p + k)) whole (entries_left l p s 0) c out
+  directory_puts {c = c} at asked given = record {
+    gives = directory_gives asked given;
+    scan = from_later l c.from _ _ (omega arith) at.1;
+    going = at.0;
+  }
+
+  pub entry_puts : {whole : List ℕ} {c : Cursor} {out : List ℕ}
+      → Going whole l (entries_left l p s 0) c.from c.to out × From l c.from (position 3 (OWNED * p + OWNED))
+      → ((from o : ℕ) → o < OBJECTS → From l from (position 4 (256 * p + o)) → pre from o)
+      → ((from o : ℕ) (x : Option Replacement) → o < OBJECTS → From l from (position 4 (256 * p + o)) → post from o x
+      → change_of x ≡ entry_unused l p s.unused o)
+      → Puts l OBJECTS pre post (entry_unused l p s.unused) (λ o. position 4 (256 * p + o)) whole [] c out
+  entry_puts {c = c} at asked given = record {
+    gives = entry_gives asked given;
+    scan = from_later l c.from _ _ (omega arith) at.1;
+    going = behind at.0 (sym (append-nil _));
   }

@@ -1,6 +1,5 @@
 // One event on an accepted image: the tests that any event meets, what it comes to, and the new image.
-ghost use Rattle.std.specs.Prelude.{◌≡◌, ◌≢◌, ◌+◌, ◌<◌, ◌≤◌, length};
-ghost use Rattle.terms.specs.Limits.{NODES};
+ghost use Rattle.std.specs.Prelude.{◌≡◌, ◌≢◌, ◌+◌, ◌≤◌, length};
 ghost use Rattle.terms.specs.Numbers.{ACCEPTED};
 ghost use Rattle.image.specs.Reader.{read};
 ghost use Rattle.image.specs.Stored.{FULL};
@@ -27,7 +26,7 @@ use terms::Refusal;
 
 // The call that a plan makes; n is the event count after the event.
 fn planned(image: &[u8], plan: &Plan, n: u32, out: &mut [u8]) -> Result<Done, Refusal>
-    requires image_len_bound { length image.now + 100 ≤ FULL }
+    requires small { length image.now + 100 ≤ FULL }
     requires orderly { Orderly 0 (changes_of n (accepted_plan plan.now)) (length image.now) }
     ensures number { number_made result ≡ number_in (plan_call n (accepted_plan plan.now) image.now out.old) }
     ensures bytes { out.new ≡ buffer_in (plan_call n (accepted_plan plan.now) image.now out.old) out.old }
@@ -43,21 +42,21 @@ fn planned(image: &[u8], plan: &Plan, n: u32, out: &mut [u8]) -> Result<Done, Re
     })
 }
 
-// The call that a COLLECT at node p makes.
+// The call that a COLLECT makes. It goes as `planned` does: one function for both would take a closure that writes, and be no shorter with the
+// clauses that say where and what.
 #[tactic(auto, unfolding(plan::specs::Sweep::sweep_changes))]
-fn swept(image: &[u8], p: u8, s: &Sweep, n: u32, out: &mut [u8]) -> Result<Done, Refusal>
-    requires node { p < NODES }
+fn swept(image: &[u8], s: &Sweep, n: u32, out: &mut [u8]) -> Result<Done, Refusal>
     requires small { length image.now + 100 ≤ FULL }
-    requires orderly { Orderly 0 (sweep_changes n image.now p (accepted_sweep s.now)) (length image.now) }
-    requires resumes { Resumes image.now p (accepted_sweep s.now) }
-    ensures number { number_made result ≡ number_in (sweep_call n p (accepted_sweep s.now) image.now out.old) }
-    ensures bytes { out.new ≡ buffer_in (sweep_call n p (accepted_sweep s.now) image.now out.old) out.old }
+    requires orderly { Orderly 0 (sweep_changes n image.now s.now.node (accepted_sweep s.now)) (length image.now) }
+    requires resumes { Resumes image.now s.now.node (accepted_sweep s.now) }
+    ensures number { number_made result ≡ number_in (sweep_call n s.now.node (accepted_sweep s.now) image.now out.old) }
+    ensures bytes { out.new ≡ buffer_in (sweep_call n s.now.node (accepted_sweep s.now) image.now out.old) out.old }
 {
-    let size = swept_length(image, p, s);
+    let size = swept_length(image, s);
     if out.len() < size {
         return Err(Refusal::Room);
     }
-    put_sweep(out, image, n, p, s);
+    put_sweep(out, image, n, s);
     Ok(Done {
         value: s.reclaimed,
         length: size as u32,
@@ -83,7 +82,7 @@ fn collect(image: &[u8], e: Event, count: u32, out: &mut [u8]) -> Result<Done, R
     ensures { Back image.now e out.old (number_made result) out.new }
 {
     let s = sweep_of(image, e.a)?;
-    swept(image, e.a, &s, count + 1, out)
+    swept(image, &s, count + 1, out)
 }
 
 // What the host call promises of this event, whatever record it was read from.

@@ -1,7 +1,7 @@
 // What stands for an object at every node of an image, and how far its owner is from one of them.
-ghost use Rattle.std.specs.Prelude.{◌≡◌, ◌<◌, unwrap_or};
+ghost use Rattle.std.specs.Prelude.{◌≡◌, ◌≤◌, unwrap_or, IfSome};
 ghost use Rattle.terms.specs.Counted.{list};
-ghost use Rattle.terms.specs.Limits.{NODES, UNREACHED};
+ghost use Rattle.terms.specs.Limits.{NODES, STEPS, UNREACHED};
 ghost use Rattle.table.specs.declared.Table.{Table as FieldTable};
 ghost use Rattle.table.specs.Depth.{depth_report};
 ghost use Rattle.plan.specs.Plan.{entry_of};
@@ -24,7 +24,8 @@ fn cell_in(image: &[u8], o: u8) -> Cell
 
 // How far the owner is along Parent in the table that the image tells of; none, too, for a number out of range.
 pub(crate) fn depth_in(image: &[u8], p: u8, o: u8) -> Option<u8>
-    ensures { (t : FieldTable) → Told image.now t → unwrap_or result UNREACHED ≡ depth_report t p o }
+    ensures report { (t : FieldTable) → Told image.now t → unwrap_or result UNREACHED ≡ depth_report t p o }
+    ensures reached { IfSome result (λ d. d ≤ STEPS) }
 {
     if Table::NODES <= p || Table::OBJECTS <= o {
         return None;

@@ -30,7 +30,8 @@ pub(crate) fn copy_part(out: &mut [u8], to: usize, part: &[u8]) -> usize
     next
 }
 
-// A change, if there is one: the old image up to a record, then the record that is to stand there.
+// A change, if there is one: the old image up to a record, then the record that is to stand there. The buffer, the old image and the cursor stay
+// apart, as `Moved` takes them: a struct that holds the lent buffer would need a clause for it in every contract.
 fn put_change(out: &mut [u8], l: &[u8], c: Cursor, change: Option<Replacement>) -> Cursor
     requires { Orderly c.from (change_of change ∷ []) (length l.now) × (c.to + length (put c.from (change_of change) l.now) ≤ length out.old) }
     ensures { Moved l.now c (change_of change) out.old result out.new }
@@ -46,7 +47,7 @@ fn put_change(out: &mut [u8], l: &[u8], c: Cursor, change: Option<Replacement>) 
     }
 }
 
-// The first n changes that a function gives, each looked for from where the last one ended.
+// The first n changes that a function gives, each looked for from where the last one ended. No `fold`: its closure would change `out`.
 pub(crate) fn put_changes<F: Fn(usize, u8) -> Option<Replacement>>(
     out: &mut [u8],
     l: &[u8],
@@ -67,7 +68,8 @@ pub(crate) fn put_changes<F: Fn(usize, u8) -> Option<Replacement>>(
     next
 }
 
-// How long n bytes become by the first changes that a function gives, `many` of them, and where the last one ends.
+// How long n bytes become by the first changes that a function gives, `many` of them, and where the last one ends. No `fold`: each turn asks for
+// `Cuts`, which the loop's invariant has.
 pub(crate) fn length_changes<F: Fn(usize, u8) -> Option<Replacement>>(
     n: usize,
     at: usize,

@@ -2,7 +2,7 @@
 // Each thing that changes is looked for from where the last change ended.
 ghost use Rattle.std.specs.Prelude.{◌≡◌, ℕ, List, ◌+◌, ◌*◌, ◌<◌, ◌≤◌, length};
 ghost use Rattle.terms.specs.Bytes.{over};
-ghost use Rattle.terms.specs.Limits.{NODES, OWNED, OBJECTS};
+ghost use Rattle.terms.specs.Limits.{OWNED, OBJECTS};
 ghost use Rattle.image.specs.Order.{position};
 ghost use Rattle.image.specs.Stored.{FULL};
 ghost use Rattle.splice.specs.Onward.{From};
@@ -20,51 +20,52 @@ use plan::{Replacement, Sweep, entry_from, object_from, replaced};
 // ---- the changes
 
 // Own object number k goes.
-fn object_gone(l: &[u8], from: usize, p: u8, s: &Sweep, k: u8) -> Option<Replacement>
-    requires p_bound { p < NODES }
-    requires k_bound { k < OWNED }
-    requires from { From l.now from (position 1 (OWNED * p + k)) }
-    ensures { change_of result ≡ object_gone l.now p s.now.gone k }
+fn object_gone(l: &[u8], from: usize, s: &Sweep, k: u8) -> Option<Replacement>
+    requires own { k < OWNED }
+    requires from { From l.now from (position 1 (OWNED * s.now.node + k)) }
+    ensures { change_of result ≡ object_gone l.now s.now.node s.now.gone k }
 {
-    let o = Heap::OWNED * p + k;
+    let o = Heap::OWNED * s.node + k;
     s.gone[usize::from(o)].then(|| replaced(object_from(l, from, o), o, 0, Held::Nothing))
 }
 
-// Its directory goes with it.
-fn directory_gone(l: &[u8], from: usize, p: u8, s: &Sweep, k: u8) -> Option<Replacement>
-    requires p_bound { p < NODES }
-    requires k_bound { k < OWNED }
-    requires from { From l.now from (position 3 (OWNED * p + k)) }
-    ensures { change_of result ≡ directory_gone l.now p s.now.gone k }
+// Its directory goes with it. As the object: what is looked for differs, and under which numbers, and each has its definition.
+fn directory_gone(l: &[u8], from: usize, s: &Sweep, k: u8) -> Option<Replacement>
+    requires own { k < OWNED }
+    requires from { From l.now from (position 3 (OWNED * s.now.node + k)) }
+    ensures { change_of result ≡ directory_gone l.now s.now.node s.now.gone k }
 {
-    let o = Heap::OWNED * p + k;
-    s.gone[usize::from(o)].then(|| replaced(entry_from(l, from, p, o), p, o, Held::Nothing))
+    let o = Heap::OWNED * s.node + k;
+    s.gone[usize::from(o)].then(|| replaced(
+        entry_from(l, from, s.node, o),
+        s.node,
+        o,
+        Held::Nothing,
+    ))
 }
 
 // The entry of another's object gets Presence false.
-fn entry_unused(l: &[u8], from: usize, p: u8, s: &Sweep, o: u8) -> Option<Replacement>
-    requires p_bound { p < NODES }
-    requires o_bound { o < OBJECTS }
-    requires from { From l.now from (position 4 (256 * p + o)) }
-    requires resumes { Resumes l.now p (accepted_sweep s.now) }
-    ensures { change_of result ≡ entry_unused l.now p s.now.unused o }
+fn entry_unused(l: &[u8], from: usize, s: &Sweep, o: u8) -> Option<Replacement>
+    requires object { o < OBJECTS }
+    requires from { From l.now from (position 4 (256 * s.now.node + o)) }
+    requires resumes { Resumes l.now s.now.node (accepted_sweep s.now) }
+    ensures { change_of result ≡ entry_unused l.now s.now.node s.now.unused o }
 {
     if !s.unused[usize::from(o)] {
         return None;
     }
-    let found = entry_from(l, from, p, o);
+    let found = entry_from(l, from, s.node, o);
     let unused = found.held.entry().set_unused();
-    Some(replaced(found, p, o, Held::Entry(unused)))
+    Some(replaced(found, s.node, o, Held::Entry(unused)))
 }
 
 // ---- the image that they make
 
 // The new image at the front of out.
-pub(crate) fn put_sweep(out: &mut [u8], l: &[u8], count: u32, p: u8, s: &Sweep)
-    requires p_bound { p < NODES }
-    requires orderly { Orderly 0 (sweep_changes count l.now p (accepted_sweep s.now)) (length l.now) × (length (swept_image count l.now p (accepted_sweep s.now)) ≤ length out.old) }
-    requires resumes { Resumes l.now p (accepted_sweep s.now) }
-    ensures { out.new ≡ over (swept_image count l.now p (accepted_sweep s.now)) out.old }
+pub(crate) fn put_sweep(out: &mut [u8], l: &[u8], count: u32, s: &Sweep)
+    requires orderly { Orderly 0 (sweep_changes count l.now s.now.node (accepted_sweep s.now)) (length l.now) × (length (swept_image count l.now s.now.node (accepted_sweep s.now)) ≤ length out.old) }
+    requires resumes { Resumes l.now s.now.node (accepted_sweep s.now) }
+    ensures { out.new ≡ over (swept_image count l.now s.now.node (accepted_sweep s.now)) out.old }
 {
     let first = put_count(out, l, count);
     let a = put_changes(
@@ -72,43 +73,37 @@ pub(crate) fn put_sweep(out: &mut [u8], l: &[u8], count: u32, p: u8, s: &Sweep)
         l,
         first,
         Heap::OWNED,
-        |from, k| object_gone(l, from, p, s, k),
+        |from, k| object_gone(l, from, s, k),
     );
     let b = put_changes(
         out,
         l,
         a,
         Heap::OWNED,
-        |from, k| directory_gone(l, from, p, s, k),
+        |from, k| directory_gone(l, from, s, k),
     );
     let c = put_changes(
         out,
         l,
         b,
         Heap::OBJECTS,
-        |from, o| entry_unused(l, from, p, s, o),
+        |from, o| entry_unused(l, from, s, o),
     );
     copy_part(out, c.to, &l[c.from..]);
 }
 
 // How long it is; the record of the event count and the entries that are no longer used are as long as they were.
-pub(crate) fn swept_length(l: &[u8], p: u8, s: &Sweep) -> usize
-    requires p_bound { p < NODES }
-    requires l_len_bound { (length l.now ≤ FULL) × Orderly 0 (sweep_changes 0 l.now p (accepted_sweep s.now)) (length l.now) }
-    requires resumes { Resumes l.now p (accepted_sweep s.now) }
-    ensures { (count : ℕ) → result ≡ length (swept_image count l.now p (accepted_sweep s.now)) }
+pub(crate) fn swept_length(l: &[u8], s: &Sweep) -> usize
+    requires orderly { (length l.now ≤ FULL) × Orderly 0 (sweep_changes 0 l.now s.now.node (accepted_sweep s.now)) (length l.now) }
+    requires resumes { Resumes l.now s.now.node (accepted_sweep s.now) }
+    ensures { (count : ℕ) → result ≡ length (swept_image count l.now s.now.node (accepted_sweep s.now)) }
 {
     let (n, at) = length_changes(
         l.len(),
         COUNTED,
         Heap::OWNED,
-        |from, k| object_gone(l, from, p, s, k),
+        |from, k| object_gone(l, from, s, k),
     );
-    let (n, _) = length_changes(
-        n,
-        at,
-        Heap::OWNED,
-        |from, k| directory_gone(l, from, p, s, k),
-    );
+    let (n, _) = length_changes(n, at, Heap::OWNED, |from, k| directory_gone(l, from, s, k));
     n
 }

@@ -3,9 +3,9 @@
 
 mod walk; // walk.rt: what is reached, and what is held
 
-ghost use Rattle.std.specs.Prelude.{◌≡◌, ◌<◌, get_or, IfSome};
+ghost use Rattle.std.specs.Prelude.{◌≡◌, ◌<◌, get_or, replicate, IfSome};
 ghost use Rattle.std.specs.Option.{unwrap_or};
-ghost use Rattle.terms.specs.Limits.{OWNED};
+ghost use Rattle.terms.specs.Limits.{OWNED, ROOTS, NONE};
 ghost use Rattle.heap.specs.Heap.{idle, born, fresh_heap, object_at, is_live, field_at, roots_at, root_at, with_object, with_field, with_root, free_own};
 ghost use Rattle.heap.specs.Heap.{with_root_in, with_field_in};
 ghost use Rattle.heap.specs.Heap.{fits_name, fits_field, fits_object, fits_roots, fits_heap};
@@ -13,56 +13,54 @@ ghost use Rattle.heap.specs.Heap.{fits_name, fits_field, fits_object, fits_roots
 #[derive(Clone, Copy)]
 pub struct Object {
     pub live: bool,
-    pub fields: [u8; 4],
+    pub fields: [u8; Heap::FIELDS as usize],
 }
 
 // The roots of one node.
 #[derive(Clone, Copy)]
 pub struct Roots {
-    pub at: [u8; 8],
+    pub at: [u8; Heap::ROOTS as usize],
 }
 
 #[derive(Clone, Copy)]
 pub struct Heap {
-    pub objects: [Object; 64],
-    pub roots: [Roots; 8],
+    pub objects: [Object; Heap::OBJECTS as usize],
+    pub roots: [Roots; Heap::NODES as usize],
 }
 
 // For each object, whether it is marked.
 #[derive(Clone, Copy)]
 pub struct Marks {
-    pub seen: [bool; 64],
+    pub seen: [bool; Heap::OBJECTS as usize],
 }
 
 impl Heap {
-    pub const NODES: u8 = 8;
+    pub const NODES: u8 = terms::NODES;
 
     pub const OBJECTS: u8 = 64;
 
-    // Objects that one node owns.
-    pub const OWNED: u8 = 8;
+    // Objects that one node owns. Whose an object is stands where it is asked, as `o / OWNED`: a function would be no shorter, and each proof would
+    // have to cite its clause.
+    pub const OWNED: u8 = terms::OWNED;
 
     pub const FIELDS: u8 = 4;
 
     pub const ROOTS: u8 = 8;
 
-    // What an empty root or field holds.
+    // What an empty root or field holds: a number, and no Option, as the bytes of an image and the definition `fits_name` have it.
     pub const NONE: u8 = 255;
 
     // Nothing live, all roots and fields empty.
     pub fn fresh() -> Heap
         ensures { result ≡ fresh_heap }
     {
-        let node = Roots {
-            at: [Heap::NONE; 8],
-        };
         Heap {
-            objects: [Object::idle(); 64],
-            roots: [node; 8],
+            objects: [Object::idle(); Heap::OBJECTS as usize],
+            roots: [Roots::empty(); Heap::NODES as usize],
         }
     }
 
-    // Past the last object none is live.
+    // A getter for each array, here and in heap's parts, in one line: what they share is the library's `get`. Past the last object none is live.
     pub fn is_live(&self, o: u8) -> bool
         ensures { result ≡ is_live self.now o }
     {
@@ -71,7 +69,7 @@ impl Heap {
             .is_some_and(|object| object.live)
     }
 
-    // 0 where there is no such field.
+    // 0 where there is no such field: the definition fixes the 0, of a root below too.
     pub fn field(&self, o: u8, f: u8) -> u8
         ensures { result ≡ field_at self.now o f }
     {
@@ -89,7 +87,7 @@ impl Heap {
             .map_or(0, |roots| roots.root(r))
     }
 
-    // As it was where there is no such object.
+    // As it was where there is no such object. Not by `get_mut`, here and below: after it a proof knows the array's length and no element.
     fn set_object(&mut self, o: u8, object: Object)
         ensures { self.new ≡ with_object self.old o object }
     {
@@ -166,12 +164,12 @@ fn fits_field(live: bool, x: u8) -> bool
 
 impl Object {
     // Not live, its fields empty.
-    fn idle() -> Object
+    pub fn idle() -> Object
         ensures { result ≡ idle }
     {
         Object {
             live: false,
-            fields: [Heap::NONE; 4],
+            fields: [Heap::NONE; Heap::FIELDS as usize],
         }
     }
 
@@ -181,7 +179,7 @@ impl Object {
     {
         Object {
             live: true,
-            fields: [Heap::NONE; 4],
+            fields: [Heap::NONE; Heap::FIELDS as usize],
         }
     }
 
@@ -209,6 +207,14 @@ impl Object {
 }
 
 impl Roots {
+    pub fn empty() -> Roots
+        ensures { result ≡ record { at = replicate ROOTS NONE } }
+    {
+        Roots {
+            at: [Heap::NONE; Heap::ROOTS as usize],
+        }
+    }
+
     // 0 where there is no such root.
     pub fn root(&self, r: u8) -> u8
         ensures { result ≡ get_or self.now.at r 0 }

@@ -4,7 +4,7 @@ ghost use Rattle.terms.specs.Counted.{holds, list, list_from};
 ghost use Rattle.terms.specs.Limits.{NODES, OBJECTS, FIELDS};
 ghost use Rattle.heap.specs.Heap.{field_at, fields_of, roots_of};
 ghost use Rattle.heap.specs.Visit.{Visited};
-ghost use Rattle.heap.specs.Walk.{owned_by, everywhere, unmarked, mark, held_by, pointed, reached};
+ghost use Rattle.heap.specs.Walk.{owned_by, everywhere, is_marked, unmarked, mark, held_by, pointed, reached};
 
 use crate::{Heap, Marks};
 
@@ -12,7 +12,16 @@ impl Marks {
     fn unmarked() -> Marks
         ensures { result.seen ≡ unmarked }
     {
-        Marks { seen: [false; 64] }
+        Marks {
+            seen: [false; Heap::OBJECTS as usize],
+        }
+    }
+
+    // Past the last object none is marked.
+    pub fn is_marked(&self, o: u8) -> bool
+        ensures { result ≡ is_marked self.now.seen o }
+    {
+        self.seen.get(usize::from(o)).copied().unwrap_or(false)
     }
 
     fn set_mark(&mut self, x: u8)
@@ -24,7 +33,9 @@ impl Marks {
     }
 }
 
-// Marks o and what is reached from it, on p only, through objects that aren't marked yet.
+// Marks o and what is reached from it, on p only, through objects that aren't marked yet. It and `visit_field` call each other, by a rule of the
+// project: so no `for` over the fields, and no methods. That p is a node, which `reached` tests, stands in four contracts, all private: a type of
+// nodes would go through every definition, whose arguments are numbers.
 #[cycle(visit_field_visit_object)]
 fn visit_object(heap: &Heap, p: u8, marks: &mut Marks, o: u8)
     requires { p < NODES }
@@ -49,6 +60,7 @@ fn visit_field(heap: &Heap, p: u8, marks: &mut Marks, o: u8, f: u8)
     }
 }
 
+// The loops below change the marks that they are lent: after a closure that did so a proof would know nothing of them.
 impl Heap {
     #[tactic(auto, unfolding(terms::specs::Counted::list_from))]
     fn visit_roots(&self, p: u8, marks: &mut Marks)
@@ -61,7 +73,7 @@ impl Heap {
     }
 
     #[tactic(auto, unfolding(crate::specs::Walk::pointed))]
-    fn visit_pointed(&self, p: u8, tests: [bool; 8], marks: &mut Marks)
+    fn visit_pointed(&self, p: u8, tests: [bool; Heap::OWNED as usize], marks: &mut Marks)
         requires { p < NODES }
         ensures { Visited self.now (owned_by p) (pointed p tests) marks.old.seen marks.new.seen }
     {
@@ -73,7 +85,7 @@ impl Heap {
     }
 
     // What is reached, on p only, from its roots and from the objects of its own that `counted` points at.
-    pub fn reached(&self, p: u8, counted: [bool; 8]) -> Marks
+    pub fn reached(&self, p: u8, counted: [bool; Heap::OWNED as usize]) -> Marks
         ensures { result.seen ≡ reached self.now (owned_by p) (roots_of self.now p ++ pointed p counted) }
     {
         let mut marks = Marks::unmarked();
@@ -98,7 +110,7 @@ impl Heap {
         ensures { marks.new.seen ≡ mark everywhere marks.old.seen (held_by self.now holders.now.seen) }
     {
         for o in 0..Heap::OBJECTS {
-            if holders.seen[usize::from(o)] {
+            if holders.is_marked(o) {
                 self.mark_fields(o, marks);
             }
         }

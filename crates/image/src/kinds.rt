@@ -26,14 +26,15 @@ impl From<u16> for RecordKind {
     }
 }
 
-impl RecordKind {
-    // The number that stands for it.
-    pub fn code(self) -> u16
-        ensures { result ≡ code_of self }
-    {
-        self as u16
-    }
+impl From<RecordKind> for u16 {
+    ghost from_gives = { λ kind code. code ≡ code_of kind };
 
+    fn from(kind: RecordKind) -> u16 {
+        kind as u16
+    }
+}
+
+impl RecordKind {
     // How many bytes the payload has.
     pub fn length(self) -> usize
         ensures { result ≡ length_of self }

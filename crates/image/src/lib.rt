@@ -59,7 +59,8 @@ pub enum RecordKind {
     Unknown = 0,
 }
 
-// The records that may come next: from one position of the image order up to another, both included.
+// The records that may come next: from one position of the image order up to another, both included. No `RangeInclusive`, which is not `Copy`;
+// and the definitions of the order name it.
 #[derive(Clone, Copy)]
 pub struct Turn {
     pub first: u32,

@@ -5,7 +5,7 @@ ghost use Rattle.image.specs.Find.{size_of, count_in, object_in, roots_in, entry
 
 use crate::{Held, RecordKind};
 use entry::Entry;
-use heap::{Heap, Object, Roots};
+use heap::{Object, Roots};
 use table::Message;
 
 impl Held {
@@ -40,10 +40,7 @@ impl Held {
     {
         match self {
             Held::Object(x) => x,
-            _ => Object {
-                live: false,
-                fields: [Heap::NONE; 4],
-            },
+            _ => Object::idle(),
         }
     }
 
@@ -52,9 +49,7 @@ impl Held {
     {
         match self {
             Held::Roots(x) => x,
-            _ => Roots {
-                at: [Heap::NONE; 8],
-            },
+            _ => Roots::empty(),
         }
     }
 

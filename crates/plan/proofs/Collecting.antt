@@ -9,12 +9,16 @@ use Rattle.heap.specs.declared.Marks.{Marks}
 use Rattle.step.specs.declared.Collection.{Collection}
 use Rattle.step.specs.CollectParts.{collection_of, is_whole}
 use Rattle.plan.specs.Change.{Sweep}
-use Rattle.plan.specs.Made.{accepted_sweep, tested}
+use Rattle.plan.specs.Made.{tested}
 use Rattle.plan.specs.Sweep.{refused_sweep, swept_with, sweep_with, kept_in, held_in}
 
 abbrev pub sweep_from : Result Collection Refusal → Sweep
-sweep_from (Ok c) = accepted_sweep (tested c)
+sweep_from (Ok c) = tested c
 sweep_from (Err refusal) = refused_sweep (number_of refusal)
+
+abbrev pub node_of : ℕ → Result Collection Refusal → ℕ
+node_of p (Ok c) = c.node
+node_of p (Err refusal) = p
 
 module _ (h : Heap) (p : ℕ) (counted : List Bool) (present : Marks) where
   abbrev kept : List Bool
@@ -28,5 +32,13 @@ module _ (h : Heap) (p : ℕ) (counted : List Bool) (present : Marks) where
   sweep_from-collection_of = go (is_whole h p present.seen kept)
     where
       go : (b : Bool) → sweep_from (if b then Ok made else Err Torn) ≡ (if not b then refused_sweep TORN else swept_with h present.seen kept p)
+      go true = refl
+      go false = refl
+
+  pub node_of-collection_of : node_of p (collection_of h p counted present) ≡ p
+  unfolding collection_of
+  node_of-collection_of = go (is_whole h p present.seen kept)
+    where
+      go : (b : Bool) → node_of p (if b then Ok made else Err Torn) ≡ p
       go true = refl
       go false = refl

@@ -54,8 +54,9 @@ Reaches l p o (Ok found) = (found ≡ object_spot l o) × ((plan : Plan) → ans
 Reaches l p o (Err refusal) = (plan : Plan) → answered refused_plan (out_of_reach_in l p o) plan ≡ refused_plan (number_of refusal)
 
 -- what a collection tells of each object
-abbrev pub tested : Collection → code_sweep.Sweep
+abbrev pub tested : Collection → Sweep
 tested c = record {
+  answer = ACCEPTED;
   reclaimed = how_many OBJECTS (reclaims c.heap c.node c.kept.seen);
   gone = list OBJECTS (reclaims c.heap c.node c.kept.seen);
   unused = list OBJECTS (is_unused c.node c.present.seen c.held.seen);

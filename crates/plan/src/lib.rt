@@ -1,5 +1,6 @@
-// What an event comes to on an image, asked where it lies: no table is made of it, and nothing is changed yet. Any bytes are taken; on an accepted
-// image a plan is what the event's rule does on the table that the image tells of (specs/Plans.antt, specs/SweepLaws.antt).
+// What an event comes to on an image, asked where it lies: no table is made of it, and nothing is changed yet, so that the rules of step, which
+// change one, are no twins of these. Any bytes are taken; on an accepted image a plan is what the event's rule does on the table that the image
+// tells of (specs/Plans.antt, specs/SweepLaws.antt).
 #![tactic(auto)]
 
 mod changes; // changes.rt: the parts that a plan is made of
@@ -9,6 +10,9 @@ mod message_plans; // message_plans.rt: what SEND, RECEIVE, SETTLE and DROP come
 mod plans; // plans.rt: the plan of an event, kind by kind
 mod sweeps; // sweeps.rt: what COLLECT comes to
 
+ghost use Rattle.std.specs.Prelude.{◌<◌};
+ghost use Rattle.terms.specs.Limits.{NODES};
+
 pub use changes::replaced;
 use image::Held;
 pub use lookups::{entry_from, object_from};
@@ -17,7 +21,7 @@ use step::Deed;
 pub use sweeps::sweep_of;
 
 // A part of the image replaced by another record: from where to where in the bytes, and what is to stand there of object, node or place a, or
-// of object b at node a.
+// of object b at node a. The numbers stand side by side, as `To at after a b held` has them.
 #[derive(Clone, Copy)]
 pub struct Replacement {
     pub at: usize,
@@ -37,11 +41,13 @@ pub struct Plan {
     pub message: Option<Replacement>,
 }
 
-// What an accepted COLLECT comes to on an image: how many objects are reclaimed, which they are, and for which objects of other nodes the entry
-// is no longer used.
+// What an accepted COLLECT comes to on an image: at which node, how many objects are reclaimed, which they are, and for which objects of other
+// nodes the entry is no longer used: lists, as the definitions of specs/Sweep.antt take them.
 #[derive(Clone, Copy)]
 pub struct Sweep {
+    pub node: u8,
     pub reclaimed: u32,
     pub gone: [bool; 64],
     pub unused: [bool; 64],
+    pub ghost is_node: { node < NODES },
 }

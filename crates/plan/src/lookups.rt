@@ -11,7 +11,8 @@ use heap::Heap;
 use image::{Found, RecordKind};
 use reader::{look_from, place_of};
 
-// ---- what stands there
+// ---- what stands there, in one line for each sort: the kind that stands for it. The image goes along as a slice, round which a struct of its own
+// would be no plainer.
 
 pub fn object_from(l: &[u8], from: usize, o: u8) -> Found
     ensures { result ≡ found_from from (spot_position (object o)) l.now }

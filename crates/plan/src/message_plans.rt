@@ -14,7 +14,8 @@ use step::{Deed, last_words, receipt, reply};
 use table::{Message, Table};
 use terms::Refusal;
 
-// The lowest place without a message and what stands there, in one pass over the messages: each is looked for from the end of the one before it.
+// The lowest place without a message and what stands there, in one pass over the messages: each is looked for from the end of the one before it,
+// so no `find`. Nothing stands there where it begins and ends at one place, as `empty_place_in` asks it.
 fn empty_place(l: &[u8]) -> Option<(u8, Found)>
     ensures { MatchOption result (empty_place_in l.now ≡ PLACES)
         (λ x. (x.0 < PLACES) × (x.0 ≡ empty_place_in l.now) × (x.1 ≡ message_spot l.now x.0)) }
@@ -46,7 +47,7 @@ pub(crate) fn send_plan(l: &[u8], p: u8, q: u8, o: u8) -> Result<Plan, Refusal>
     }
     let found = entry_from(l, 0, p, o);
     let act = found.held.entry().sent(p, q, o);
-    if act.refusal.is_some() {
+    if act.refuses() {
         return Err(Refusal::Torn);
     }
     let (s, place) = empty_place(l).ok_or(Refusal::Full)?;
@@ -87,7 +88,7 @@ pub(crate) fn receive_plan(l: &[u8], s: u8, r: u8) -> Result<Plan, Refusal>
     let found = entry_from(l, 0, to, o);
     let e = found.held.entry();
     let act = e.received(from, to, o);
-    if act.refusal.is_some() {
+    if act.refuses() {
         return Err(Refusal::Torn);
     }
     let left = reply(from, to, o, e);
@@ -118,7 +119,7 @@ pub(crate) fn settle_plan(l: &[u8], s: u8) -> Result<Plan, Refusal>
     };
     let found = entry_from(l, 0, to, o);
     let act = found.held.entry().settled(m, n);
-    if act.refusal.is_some() {
+    if act.refuses() {
         return Err(Refusal::Torn);
     }
     Ok(Plan {

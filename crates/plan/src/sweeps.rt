@@ -1,8 +1,8 @@
 // COLLECT on an image, where it lies: what it asks of the bytes, each scan going on where the last thing found ends, and what is decided of the
 // answers.
-ghost use Rattle.std.specs.Prelude.{◌≡◌, ◌<◌};
+ghost use Rattle.std.specs.Prelude.{◌≡◌, ◌<◌, IfOk};
 ghost use Rattle.terms.specs.Limits.{NODES};
-ghost use Rattle.plan.specs.Made.{sweep_made, tested};
+ghost use Rattle.plan.specs.Made.{accepted_sweep, sweep_made, tested};
 ghost use Rattle.plan.specs.Sweep.{heap_in, counted_in, present_in, sweep_of};
 
 use crate::Sweep;
@@ -12,7 +12,7 @@ use std::array;
 use step::Collection;
 use terms::Refusal;
 
-// ---- what the image tells
+// ---- what the image tells, in loops, since each turn hands on the place where it ends: a closure would change what it captures
 
 // All objects and roots: in the image the objects come first, then the roots.
 fn heap_in(image: &[u8]) -> Heap
@@ -68,9 +68,12 @@ fn present_in(image: &[u8], p: u8) -> Marks
 
 // What goes, and what is no longer used.
 fn swept(collection: &Collection) -> Sweep
-    ensures { result ≡ tested collection.now }
+    requires { collection.now.node < NODES }
+    ensures node { result.node ≡ collection.now.node }
+    ensures tests { accepted_sweep result ≡ tested collection.now }
 {
     Sweep {
+        node: collection.node,
         reclaimed: collection.reclaimed(),
         gone: array::from_fn(|o| collection.is_reclaimed(o as u8)),
         unused: array::from_fn(|o| collection.is_unused(o as u8)),
@@ -79,7 +82,8 @@ fn swept(collection: &Collection) -> Sweep
 
 // The objects that go, and the other nodes' objects whose entry at p is no longer used. What isn't a node is refused.
 pub fn sweep_of(image: &[u8], p: u8) -> Result<Sweep, Refusal>
-    ensures { sweep_made result ≡ sweep_of image.now p }
+    ensures sweep { sweep_made result ≡ sweep_of image.now p }
+    ensures node { IfOk result (λ s. s.node ≡ p) }
 {
     if Heap::NODES <= p {
         return Err(Refusal::Event);

@@ -13,11 +13,11 @@ use step::Event;
 use table::Table;
 use terms::Refusal;
 
-mod advance;
-mod counts;
-mod line;
-mod records;
-mod text;
+mod advance; // advance.rt: how far a run has come
+mod counts; // counts.rt: what the summary counts
+mod line; // line.rt: the lines of a run
+mod records; // records.rt: event records in a stream of bytes
+mod text; // text.rt: text into a lent buffer
 
 // The bytes that a buffer needs, so that any run's text fits: 4,096 lines of at most 64 bytes, and 256 for what ends a run.
 pub const TEXT: usize = 262400;

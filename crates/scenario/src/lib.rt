@@ -1,8 +1,8 @@
 // Event scenarios as a person writes them, one event a line, turned into event records. What a line and a text mean stands in specs/.
 #![tactic(auto)]
 
-mod lines;
-mod numbers;
+mod lines; // lines.rt: one line
+mod numbers; // numbers.rt: the small readers of a line
 
 ghost use Rattle.std.specs.Prelude.{◌≡◌, ◌≤◌, length};
 ghost use Rattle.terms.specs.Bytes.{over};
@@ -41,9 +41,6 @@ impl fmt::Display for Unwritten {
 
 impl Error for Unwritten {}
 
-// The payload length that an event record states.
-const OPERANDS: u16 = 4;
-
 const RECORD: usize = Event::RECORD;
 
 // A first pass, which only reads: how many events the text tells.
@@ -61,11 +58,12 @@ fn check(text: &[u8]) -> Result<usize, Unwritten>
     Ok(events)
 }
 
+// No `From<Event>`: such an impl would have to stand in step, and `record_of` stands here.
 #[tactic(auto, unfolding(crate::specs::Records::record_of))]
 fn record(e: Event) -> [u8; RECORD]
     ensures { result ≡ record_of e }
 {
-    let [length_low, length_high] = OPERANDS.to_le_bytes();
+    let [length_low, length_high] = Event::OPERANDS.to_le_bytes();
     let [kind_low, kind_high] = e.kind.to_le_bytes();
     [
         length_low,

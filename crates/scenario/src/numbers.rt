@@ -23,7 +23,7 @@ pub(crate) fn ends(l: &[u8]) -> bool
     matches!(skip(l), [] | [b'#', ..])
 }
 
-// The digits at the front, as a number up to the limit.
+// The digits at the front, as a number up to the limit. No `parse`: they may end inside the line, and the limit stops them.
 #[tactic(auto, unfolding(crate::specs::Line::digits))]
 fn digits(l: &[u8], limit: u16) -> Option<(u16, &[u8])>
     ensures value { number_told result ≡ digits_of limit 0 l.now }

@@ -17,13 +17,6 @@ use std::array;
 use table::{Cell, Table};
 use terms::Refusal;
 
-// The object is marked.
-fn is_marked(marks: &Marks, o: u8) -> bool
-    ensures { result ≡ is_marked marks.now.seen o }
-{
-    marks.seen.get(usize::from(o)).copied().unwrap_or(false)
-}
-
 impl Collection {
     // Counted are those of the node's objects whose directory has RC above 0 or MsgCtr not 0: with the roots, they are what is started from.
     // Refused where a kept object isn't live, or where the node holds what it may not.
@@ -52,7 +45,8 @@ impl Collection {
         }
     }
 
-    // What is asked of node p of a table.
+    // What is asked of node p of a table. That p is a node stands in four contracts here, all private, and the event's range shows it: a type of nodes
+    // would go through every definition, whose arguments are numbers.
     fn at(t: &Table, p: u8) -> Result<Collection, Refusal>
         requires { p < NODES }
         ensures made { IfOk result (λ c. (c ≡ collection_at t.now p) × (by t.now (collect t.now p) ≡ (collect t.now p).effect)) }
@@ -66,7 +60,7 @@ impl Collection {
     fn may_hold(&self, x: u8) -> bool
         ensures { result ≡ may_hold_by self.now.present.seen self.now.node x }
     {
-        x == Heap::NONE || x / Heap::OWNED == self.node || is_marked(&self.present, x)
+        x == Heap::NONE || x / Heap::OWNED == self.node || self.present.is_marked(x)
     }
 
     // Every root of the node holds what it may.
@@ -82,14 +76,14 @@ impl Collection {
         ensures { result ≡ all (may_hold_by self.now.present.seen self.now.node)
             (if is_marked self.now.kept.seen o then fields_of self.now.heap o else []) }
     {
-        !is_marked(&self.kept, o) || (0..Heap::FIELDS).all(|f| self.may_hold(self.heap.field(o, f)))
+        !self.kept.is_marked(o) || (0..Heap::FIELDS).all(|f| self.may_hold(self.heap.field(o, f)))
     }
 
     // The object is live, if it is kept.
     fn live_if_kept(&self, o: u8) -> bool
         ensures { result ≡ (not (is_marked self.now.kept.seen o) or is_live self.now.heap o) }
     {
-        !is_marked(&self.kept, o) || self.heap.is_live(o)
+        !self.kept.is_marked(o) || self.heap.is_live(o)
     }
 
     // Every kept object is live, and the node holds only what it may.
@@ -105,7 +99,7 @@ impl Collection {
     pub fn is_reclaimed(&self, o: u8) -> bool
         ensures { result ≡ reclaims self.now.heap self.now.node self.now.kept.seen o }
     {
-        o / Heap::OWNED == self.node && self.heap.is_live(o) && !is_marked(&self.kept, o)
+        o / Heap::OWNED == self.node && self.heap.is_live(o) && !self.kept.is_marked(o)
     }
 
     // How many objects are reclaimed.
@@ -119,7 +113,7 @@ impl Collection {
     pub fn is_unused(&self, o: u8) -> bool
         ensures { result ≡ is_unused self.now.node self.now.present.seen self.now.held.seen o }
     {
-        o / Heap::OWNED != self.node && !is_marked(&self.held, o) && is_marked(&self.present, o)
+        o / Heap::OWNED != self.node && !self.held.is_marked(o) && self.present.is_marked(o)
     }
 
     // Reclaimed objects stop being live, their fields emptied.

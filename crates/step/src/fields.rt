@@ -1,4 +1,4 @@
-// LOAD and STORE: a field of the object in root q, which must be P's own and live.
+// LOAD and STORE: a field of the object in root q, which must be P's own and live. What they ask is one function; what they set differs.
 ghost use Rattle.std.specs.Prelude.{◌≡◌};
 ghost use Rattle.step.specs.Load.{load};
 ghost use Rattle.step.specs.Named.{in_reach};
@@ -12,7 +12,7 @@ use table::Table;
 use terms::Refusal;
 
 // The object in root q of p, if its fields are in p's reach.
-pub(crate) fn in_reach(h: &Heap, p: u8, q: u8) -> Result<u8, Refusal>
+fn in_reach(h: &Heap, p: u8, q: u8) -> Result<u8, Refusal>
     ensures { result ≡ in_reach h.now p q }
 {
     let o = named(h, p, q)?;

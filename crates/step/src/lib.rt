@@ -3,18 +3,18 @@
 
 use heap::{Heap, Marks};
 
-mod collect;
-mod deeds;
-mod drop;
-mod fields;
-mod kinds;
-mod new;
-mod receive;
-mod records;
-mod roots;
-mod send;
-mod settle;
-mod steps;
+mod collect; // collect.rt: COLLECT
+mod deeds; // deeds.rt: what is read of a deed
+mod drop; // drop.rt: DROP
+mod fields; // fields.rt: LOAD and STORE
+mod kinds; // kinds.rt: the kind of an event and the ranges of its operands
+mod new; // new.rt: NEW
+mod receive; // receive.rt: RECEIVE
+mod records; // records.rt: an event as a record of bytes
+mod roots; // roots.rt: MOVE and CLEAR
+mod send; // send.rt: SEND
+mod settle; // settle.rt: SETTLE
+mod steps; // steps.rt: one step
 
 pub use drop::last_words;
 pub use receive::{receipt, reply};
@@ -47,7 +47,7 @@ pub enum Kind {
     Unknown = 0,
 }
 
-// How many values each operand may take, from 0 on.
+// How many values each operand may take, from 0 on. Named as an event's operands are, which `fits_ranges` compares one by one.
 #[derive(Clone, Copy, Debug, PartialEq, Eq)]
 pub struct Ranges {
     pub a: u8,

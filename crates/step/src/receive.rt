@@ -2,8 +2,7 @@
 ghost use Rattle.std.specs.Prelude.{◌≡◌};
 ghost use Rattle.step.specs.Deed.{deed_of};
 ghost use Rattle.step.specs.Outcome.{by, outcome_of};
-ghost use Rattle.step.specs.Receive.{receive, receive_of, reply, receipt};
-ghost use Rattle.table.specs.declared.Message.TheVariants.{Reference};
+ghost use Rattle.step.specs.Receive.{receive, reply, receipt};
 
 use crate::Deed;
 use crate::send::is_dead_own;
@@ -41,37 +40,23 @@ pub fn receipt(s: u8, from: u8, e: Entry) -> Deed
 }
 
 #[tactic(auto, unfolding(crate::specs::Receive::receive_of))]
-pub(crate) fn receive_reference(
-    t: &mut Table,
-    s: u8,
-    r: u8,
-    from: u8,
-    to: u8,
-    o: u8,
-) -> Result<Deed, Refusal>
-    ensures { outcome_of result t.new ≡ by t.old (receive_of t.old s r (Reference from to o)) }
+pub(crate) fn receive(t: &mut Table, s: u8, r: u8) -> Result<Deed, Refusal>
+    ensures { outcome_of result t.new ≡ by t.old (receive t.old s r) }
 {
+    let Message::Reference { from, to, object } = t.message_at(s) else {
+        return Err(Refusal::NoMessage);
+    };
     if t.heap.root(to, r) != Heap::NONE {
         return Err(Refusal::Root);
     }
     // At the owner, the object not live or no directory; or a count that would leave its range.
-    let e = t.entry_at(to, o);
-    let act = e.received(from, to, o);
-    if is_dead_own(t, to, o) || act.refuses() {
+    let e = t.entry_at(to, object);
+    let act = e.received(from, to, object);
+    if is_dead_own(t, to, object) || act.refuses() {
         return Err(Refusal::Torn);
     }
-    t.set_message(s, reply(from, to, o, e));
-    t.set_entry(to, o, act.entry);
-    t.heap.set_root(to, r, o);
+    t.set_message(s, reply(from, to, object, e));
+    t.set_entry(to, object, act.entry);
+    t.heap.set_root(to, r, object);
     Ok(receipt(s, from, e))
-}
-
-#[tactic(auto, unfolding(crate::specs::Receive::receive_of))]
-pub(crate) fn receive(t: &mut Table, s: u8, r: u8) -> Result<Deed, Refusal>
-    ensures { outcome_of result t.new ≡ by t.old (receive t.old s r) }
-{
-    match t.message_at(s) {
-        Message::Reference { from, to, object } => receive_reference(t, s, r, from, to, object),
-        _ => Err(Refusal::NoMessage),
-    }
 }

@@ -4,9 +4,6 @@ ghost use Rattle.step.specs.EventRecord.{states_event, is_record, event_in};
 
 use crate::Event;
 
-// The payload length that an event record states.
-const OPERANDS: u16 = 4;
-
 fn byte_at(bytes: &[u8], at: usize) -> u8
     ensures { result ≡ get_or bytes.now at 0 }
 {
@@ -24,11 +21,14 @@ impl Event {
     // The bytes of an event record.
     pub const RECORD: usize = 8;
 
+    // The payload length that it states.
+    pub const OPERANDS: u16 = 4;
+
     // The stated length is that of an event.
     pub fn is_stated(bytes: &[u8]) -> bool
         ensures { result ≡ states_event bytes.now }
     {
-        word(byte_at(bytes, 0), byte_at(bytes, 1)) == OPERANDS
+        word(byte_at(bytes, 0), byte_at(bytes, 1)) == Event::OPERANDS
     }
 
     // The bytes are exactly one event record.
@@ -39,7 +39,7 @@ impl Event {
     }
 }
 
-// The event that the first eight bytes hold.
+// The event that the first eight bytes hold. No `TryFrom`: the definition is of any bytes, and a run takes records from the front of more.
 impl From<&[u8]> for Event {
     ghost from_gives = { λ bytes e. e ≡ event_in bytes.now };
 

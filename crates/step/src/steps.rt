@@ -16,9 +16,9 @@ use crate::{Deed, Event, Kind};
 use table::Table;
 use terms::Refusal;
 
-// The rule of the event's kind.
+// The rule of the event's kind. Its operands go one by one, as the definition of each rule takes them.
 #[tactic(auto, unfolding(crate::specs::Step::rule_for))]
-pub(crate) fn by_rule(t: &mut Table, e: Event) -> Result<Deed, Refusal>
+fn by_rule(t: &mut Table, e: Event) -> Result<Deed, Refusal>
     requires { fits_event e ≡ true }
     ensures { outcome_of result t.new ≡ by t.old (rule_of t.old e) }
 {

@@ -1,4 +1,5 @@
 // What stands where, and one thing in the table changed. A number out of range reads as nothing, and changes nothing.
+// A getter and a setter for each array, in one line each: what they share is the library's `get`.
 ghost use Rattle.std.specs.Prelude.{◌≡◌, ◌<◌, unwrap_or, IfSome};
 ghost use Rattle.terms.specs.Limits.{PLACES};
 ghost use Rattle.table.specs.Table.{entry_in, entry_at, message_at, cell_with, with_entry, with_message, is_empty, empty_place};

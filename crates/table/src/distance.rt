@@ -42,7 +42,7 @@ impl Table {
         self.cells.get(usize::from(o))?.depth(p)
     }
 
-    // The depth as a number for the outside: UNREACHED where there is none, for a number out of range, and for a table that breaks the shape.
+    // The depth as a number for the outside, for whoever has a table (the host call asks the image): UNREACHED where there is none, for a number out of range, and for a table that breaks the shape.
     #[tactic(auto, unfolding(crate::specs::Depth::depth_report))]
     pub fn depth_report(&self, p: u8, o: u8) -> u8
         ensures { result ≡ depth_report self.now p o }

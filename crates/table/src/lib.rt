@@ -12,7 +12,8 @@ use entry::{Entry, ReturnCount, Weight};
 use heap::Heap;
 
 // What a message place holds. A decrement's return count and weight travel side by side and cannot be exchanged. The way, from a node to another,
-// is no struct of its own: the definitions `fits_message` and `is_reference_of` have its numbers side by side.
+// is no struct of its own: the definitions `fits_message` and `is_reference_of` have its numbers side by side. Empty is a case, as they have it: an
+// Option of two sorts would be no plainer.
 #[derive(Clone, Copy)]
 pub enum Message {
     Empty,
@@ -30,7 +31,8 @@ pub enum Message {
     },
 }
 
-// A struct, since the definitions of specs/Table.antt write `record { held = .. }`, of a slot too.
+// A struct, since the definitions of specs/Table.antt write `record { held = .. }`. A slot is another, since the definitions of an image and of a
+// plan name the two apart.
 #[derive(Clone, Copy)]
 pub struct Place {
     pub held: Message,

@@ -4,6 +4,11 @@
 ghost use Rattle.std.specs.Prelude.{◌≡◌};
 ghost use Rattle.terms.specs.Refusals.{number_of};
 
+// Controllers in a field, and programs that one of them owns.
+pub const NODES: u8 = 8;
+
+pub const OWNED: u8 = 8;
+
 // What an event, an image or a table isn't taken for, each with the number that the rules fix. When each is given stands in specs/Numbers.antt.
 #[derive(Clone, Copy, Debug, PartialEq, Eq)]
 pub enum Refusal {
@@ -30,6 +35,7 @@ pub enum Refusal {
 }
 
 impl Refusal {
+    // A method and no `From`, since callers hand it on by name.
     pub fn number(self) -> u8
         ensures { result ≡ number_of self }
     {

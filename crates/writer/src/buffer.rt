@@ -40,14 +40,15 @@ impl<const N: usize> Buffer<N> {
         self.length = end;
     }
 
-    // Two bytes and four, the lowest first.
-    pub(crate) fn short(&mut self, n: u16)
+    // Two bytes, the lowest first.
+    pub(crate) fn word(&mut self, n: u16)
         requires { length self.old + 2 ≤ N }
         ensures { self.new ≡ self.old ++ bytes_of 2 n }
     {
         self.append(&n.to_le_bytes());
     }
 
+    // Four bytes, the lowest first.
     pub(crate) fn number(&mut self, n: u32)
         requires { length self.old + 4 ≤ N }
         ensures { self.new ≡ self.old ++ bytes_of 4 n }

@@ -16,8 +16,8 @@ use heap::{Object, Roots};
 use image::{Held, RecordBytes, RecordKind};
 use table::Message;
 
-// No record has more bytes.
-pub(crate) type Record = Buffer<20>;
+// No record has more bytes. The number stands again where `Buffer` becomes a `RecordBytes`, whose 20 `Tells` fixes.
+type Record = Buffer<20>;
 
 // The head of a record: how long its payload is, and the number of its kind.
 #[tactic(auto, using(crate::proofs::Sizes::payload_size))]
@@ -25,8 +25,8 @@ fn head(kind: RecordKind) -> Record
     ensures { result ≡ packed head_widths (length_of kind ∷ code_of kind ∷ []) }
 {
     let mut record = Buffer::new();
-    record.short(kind.length() as u16);
-    record.short(kind.code());
+    record.word(kind.length() as u16);
+    record.word(kind.into());
     record
 }
 

@@ -9,8 +9,8 @@ use crate::sections::image_of;
 use table::Table;
 use terms::Refusal;
 
-// The image of any table at the front of out, and its length; with too little room out is as it was. Whoever knows that the table has the shape
-// calls this, and saves the test. The image is made in a buffer of its own, so that one pass over the table is enough.
+// The image of any table at the front of out, and its length; with too little room out is as it was. The shape is not asked: that is `write`'s.
+// The image is made in a buffer of its own, so that one pass over the table is enough.
 pub fn put_image(t: &Table, out: &mut [u8]) -> Result<usize, Refusal>
     ensures answer { (written_of result).answer ≡ put_answer t.now out.old }
     ensures length { (written_of result).length ≡ put_length t.now out.old }

@@ -24,6 +24,6 @@ returns c =
     let accepted = answer-check a.image.now ∙ sym c.in_ok-check.ensures in
     let told = slice_told a.image.now c.type_inv.image accepted in
     let plain : (d : ℕ) → number_of_call ACCEPTED d 0 ≡ 256 * d = λ d. omega arith in
-    let report = c.unwrap_or-depth.ensures ∙ c.depth_in.ensures (read a.image.now).table told in
+    let report = c.unwrap_or-depth.ensures ∙ c.depth_in.ensures.report (read a.image.now).table told in
     rw (c.of.ensures, c.from.ensures, report)
     (plain (depth_report (read a.image.now).table a.node a.object) ∙ depth_told a.image.now a.node a.object accepted)

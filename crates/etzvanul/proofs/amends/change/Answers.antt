@@ -33,7 +33,7 @@ planned-requires c =
     let size = accepted_size l (slice_bytes l c.type_inv.image) asked.accepted in
     let told = slice_told l c.type_inv.image asked.accepted in
     record {
-      image_len_bound = omega (arith, size.1);
+      small = omega (arith, size.1);
       orderly = change_orderly l told a.e a.count asked a.out.now c.requires.other (accepted_plan c.in_ok-plan.plan) c.in_ok-plan.ensures refl;
     }
 

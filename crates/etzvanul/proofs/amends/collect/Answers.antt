@@ -27,7 +27,7 @@ returns-in_err-s c =
     let back =
     call_not number (Collected s.reclaimed) (swept_image (a.count + 1) l a.e.a s) a.out.now (refusal_number c.in_err-s.field-0.0) in
     let p = err_from_is_err_and c.from_residual.result c.from_residual.ensures.1 in
-    rw (p.1, p.2) (collect_back l told a.e a.count asked a.out.now c.requires.kind s c.in_err-s.ensures number a.out.now back.0 back.1)
+    rw (p.1, p.2) (collect_back l told a.e a.count asked a.out.now c.requires.kind s c.in_err-s.ensures.sweep number a.out.now back.0 back.1)
 
 pub swept-requires : goal.swept-requires
 swept-requires c =
@@ -40,10 +40,9 @@ swept-requires c =
     let node = collect_node l told a.e a.count asked a.out.now c.requires.kind in
     let s = accepted_sweep c.in_ok-s.s in
     record {
-      node = node;
       small = omega (arith, size.1);
-      orderly = collect_orderly l told a.e a.count asked a.out.now c.requires.kind s c.in_ok-s.ensures refl;
-      resumes = resumes l are (read l).table told a.e.a node s c.in_ok-s.ensures;
+      orderly = rw c.in_ok-s.ensures.node (collect_orderly l told a.e a.count asked a.out.now c.requires.kind s c.in_ok-s.ensures.sweep refl);
+      resumes = rw c.in_ok-s.ensures.node (resumes l are (read l).table told a.e.a node s c.in_ok-s.ensures.sweep);
     }
 
 pub returns : goal.returns
@@ -52,5 +51,5 @@ returns c =
     let l = a.image.now in
     let asked = c.requires.asked in
     let told = slice_told l c.type_inv.image asked.accepted in
-    collect_back l told a.e a.count asked a.out.now c.requires.kind (accepted_sweep c.in_ok-s.s) c.in_ok-s.ensures _ _
-    c.swept.ensures.number c.swept.ensures.bytes
+    collect_back l told a.e a.count asked a.out.now c.requires.kind (accepted_sweep c.in_ok-s.s) c.in_ok-s.ensures.sweep _ _
+    (rw c.in_ok-s.ensures.node at c.swept.ensures.number) (rw c.in_ok-s.ensures.node at c.swept.ensures.bytes)

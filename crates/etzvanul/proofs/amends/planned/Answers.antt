@@ -25,7 +25,7 @@ put_plan-requires c =
 pub overflow_cast-result : goal.overflow_cast-result
 overflow_cast-result c =
     let a = c.args in
-    omega (arith, c.length_after-size.ensures, after_most (length a.image.now) (others (accepted_plan a.plan.now)), c.requires.image_len_bound)
+    omega (arith, c.length_after-size.ensures, after_most (length a.image.now) (others (accepted_plan a.plan.now)), c.requires.small)
 
 pub returns : goal.returns
 returns c =

@@ -15,13 +15,13 @@ returns-then-out-size c =
     let s = accepted_sweep a.s.now in
     let size = c.swept_length-size.ensures a.n in
     let back =
-    call_short ACCEPTED (Collected s.reclaimed) (swept_image a.n a.image.now a.p s) a.out.now refl (omega (arith, size, c.if-out-size.true)) in
+    call_short ACCEPTED (Collected s.reclaimed) (swept_image a.n a.image.now a.s.now.node s) a.out.now refl (omega (arith, size, c.if-out-size.true)) in
     record { number = back.0; bytes = back.1 }
 
 pub overflow_cast-result : goal.overflow_cast-result
 overflow_cast-result c =
     let a = c.args in
-    let most = swept_most a.n a.image.now a.p (accepted_sweep a.s.now) c.requires.orderly in
+    let most = swept_most a.n a.image.now a.s.now.node (accepted_sweep a.s.now) c.requires.orderly in
     omega (arith, c.swept_length-size.ensures a.n, most, c.requires.small)
 
 pub returns : goal.returns
@@ -30,5 +30,5 @@ returns c =
     let s = accepted_sweep a.s.now in
     let size = c.swept_length-size.ensures a.n in
     let done =
-    call_done ACCEPTED (Collected s.reclaimed) (swept_image a.n a.image.now a.p s) a.out.now refl (omega (arith, size, c.if-out-size.false)) in
+    call_done ACCEPTED (Collected s.reclaimed) (swept_image a.n a.image.now a.s.now.node s) a.out.now refl (omega (arith, size, c.if-out-size.false)) in
     record { number = ap (number_of_call ACCEPTED s.reclaimed) size ∙ done.0; bytes = c.put_sweep.ensures ∙ done.1 }

@@ -1,13 +1,7 @@
-use Rattle.std.proofs.Common.{◌≡◌, ◌+◌, ◌-◌, subst, arith, of_calls}
+use Rattle.std.proofs.Common.{◌≡◌, subst, arith, of_calls}
 use Rattle.splice.specs.Onward.{From}
 use Rattle.etzvanul.proofs.Sweeping.{next_left, none_left, cut_next, measured_on, measured_next}
 use Rattle.etzvanul.proofs.puts.length_changes.Goals as goal
-
-pub loop-k-init : goal.loop-k-init
-loop-k-init g c = λ s f place old whole most rest m.
-    let all : c.args.many - 0 ≡ c.args.many = omega arith in
-    let none : most + 0 ≡ most = omega arith in
-    rw (all, none) (m.measured, m.scan)
 
 pub change-new-requires : goal.change-new-requires
 change-new-requires g c =

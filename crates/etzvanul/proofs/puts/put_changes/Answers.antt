@@ -1,12 +1,7 @@
-use Rattle.std.proofs.Common.{◌≡◌, ◌-◌, subst, arith, of_calls}
+use Rattle.std.proofs.Common.{◌≡◌, subst, arith, of_calls}
 use Rattle.splice.specs.Onward.{From}
 use Rattle.etzvanul.proofs.Sweeping.{next_left, none_left, ready_next, on_next, behind}
 use Rattle.etzvanul.proofs.puts.put_changes.Goals as goal
-
-pub loop-k-init : goal.loop-k-init
-loop-k-init g c = λ f place whole rest puts.
-    let all : c.args.n - 0 ≡ c.args.n = omega arith in
-    rw all (puts.going, puts.scan)
 
 pub change-requires : goal.change-requires
 change-requires g c =

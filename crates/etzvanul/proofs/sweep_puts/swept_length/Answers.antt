@@ -18,11 +18,11 @@ length_changes-n-requires c =
       length a.l.now,
       _,
       FULL,
-      directories_left a.l.now a.p s 0,
+      directories_left a.l.now a.s.now.node s 0,
       record {
         gives = object_gives c.requires.resumes (λ from k lt scan. search rules) (λ from k x lt scan post. search (rules, of_calls));
         scan = first_on c.requires.resumes;
-        measured = sweep_measured a.l.now a.p s c.requires.l_len_bound;
+        measured = sweep_measured a.l.now a.s.now.node s c.requires.orderly;
         small = omega arith;
       },
     )
@@ -32,10 +32,10 @@ length_changes-n-requires-2 c =
     let a = c.args in
     let s = accepted_sweep a.s.now in
     let objects =
-    c.length_changes-n.ensures a.l.now _ _ (length a.l.now) _ FULL (directories_left a.l.now a.p s 0) (record {
+    c.length_changes-n.ensures a.l.now _ _ (length a.l.now) _ FULL (directories_left a.l.now a.s.now.node s 0) (record {
       gives = object_gives c.requires.resumes (λ from k lt scan. search rules) (λ from k x lt scan post. search (rules, of_calls));
       scan = first_on c.requires.resumes;
-      measured = sweep_measured a.l.now a.p s c.requires.l_len_bound;
+      measured = sweep_measured a.l.now a.s.now.node s c.requires.orderly;
       small = omega arith;
     }) in (
       a.l.now,
@@ -44,7 +44,7 @@ length_changes-n-requires-2 c =
       length a.l.now,
       _,
       FULL + 160,
-      entries_left a.l.now a.p s 0,
+      entries_left a.l.now a.s.now.node s 0,
       record {
         gives = directory_gives c.requires.resumes (λ from k lt scan. search rules) (λ from k x lt scan post. search (rules, of_calls));
         scan = from_later a.l.now c.length_changes-n.result.1 _ _ (omega arith) objects.1;
@@ -58,18 +58,18 @@ returns c =
     let a = c.args in
     let s = accepted_sweep a.s.now in
     let objects =
-    c.length_changes-n.ensures a.l.now _ _ (length a.l.now) _ FULL (directories_left a.l.now a.p s 0) (record {
+    c.length_changes-n.ensures a.l.now _ _ (length a.l.now) _ FULL (directories_left a.l.now a.s.now.node s 0) (record {
       gives = object_gives c.requires.resumes (λ from k lt scan. search rules) (λ from k x lt scan post. search (rules, of_calls));
       scan = first_on c.requires.resumes;
-      measured = sweep_measured a.l.now a.p s c.requires.l_len_bound;
+      measured = sweep_measured a.l.now a.s.now.node s c.requires.orderly;
       small = omega arith;
     }) in
     let directories =
-    c.length_changes-n-2.ensures a.l.now _ _ (length a.l.now) _ (FULL + 160) (entries_left a.l.now a.p s 0) (record {
+    c.length_changes-n-2.ensures a.l.now _ _ (length a.l.now) _ (FULL + 160) (entries_left a.l.now a.s.now.node s 0) (record {
       gives = directory_gives c.requires.resumes (λ from k lt scan. search rules) (λ from k x lt scan post. search (rules, of_calls));
       scan = from_later a.l.now c.length_changes-n.result.1 _ _ (omega arith) objects.1;
       measured = objects.0;
       small = omega arith;
     }) in
     λ count. sym (unused_all c.requires.resumes c.length_changes-n-2.result.0) ∙ directories.0.left
-    ∙ sweep_length a.l.now a.p s c.requires.l_len_bound count
+    ∙ sweep_length a.l.now a.s.now.node s c.requires.orderly count

@@ -4,8 +4,8 @@ use Rattle.step.specs.CollectParts.{reclaims, is_unused}
 use Rattle.step.proofs.Lists.{list-from_fn}
 use Rattle.plan.proofs.sweeps.swept.Goals as goal
 
-pub returns : goal.returns
-returns c =
+pub returns-clause-tests : goal.returns-clause-tests
+returns-clause-tests c =
     let s = c.args.collection.now in
     let gone = list-from_fn _ _ (reclaims s.heap s.node s.kept.seen) false (λ o y q call. search rules) _ OBJECTS c.from_fn.ensures.items in
     let unused =
