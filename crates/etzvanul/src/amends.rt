@@ -36,6 +36,7 @@ fn planned(image: &[u8], plan: &Plan, n: u32, out: &mut [u8]) -> Result<Done, Re
         return Err(Refusal::Room);
     }
     put_plan(out, image, n, plan);
+    // The cast loses nothing, here and below: `small` bounds the size.
     Ok(Done {
         value: plan.deed.value(),
         length: size as u32,

@@ -15,6 +15,7 @@ use table::{Cell, Slot, Table};
 fn cell_in(image: &[u8], o: u8) -> Cell
     ensures { result.at ≡ list NODES (λ p. record { held = entry_of image.now p o }) }
 {
+    // The cast loses nothing: there are eight nodes.
     Cell {
         at: array::from_fn(|p| Slot {
             held: entry_from(image, 0, p as u8, o).held.entry(),

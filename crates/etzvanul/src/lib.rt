@@ -97,6 +97,7 @@ fn put_fresh(out: &mut [u8]) -> Result<Done, Refusal>
         return Err(Refusal::Room);
     }
     copy_part(out, 0, &FRESH);
+    // The cast is of 116.
     Ok(Done {
         value: 0,
         length: FRESH.len() as u32,

@@ -113,6 +113,7 @@ pub(crate) fn put_plan(out: &mut [u8], l: &[u8], count: u32, plan: &Plan)
     ensures { out.new ≡ over (new_image count (accepted_plan plan.now) l.now) out.old }
 {
     let mut c = put_count(out, l, count);
+    // No `fold`, as in `put_changes`.
     for change in plan.changes() {
         c = put_change(out, l, c, change);
     }
@@ -143,6 +144,7 @@ pub(crate) fn length_after(n: usize, plan: &Plan) -> usize
     ensures { result ≡ length_after n (others (accepted_plan plan.now)) }
 {
     let mut length = n;
+    // No `fold`, as in `length_changes`.
     for change in plan.changes() {
         length = length_with(length, change);
     }

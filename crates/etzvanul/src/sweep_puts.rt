@@ -44,7 +44,8 @@ fn directory_gone(l: &[u8], from: usize, s: &Sweep, k: u8) -> Option<Replacement
     ))
 }
 
-// The entry of another's object gets Presence false.
+// The entry of another's object gets Presence false. `Resumes` goes with the image and the sweep: a ghost field of the one can't speak of the
+// other.
 fn entry_unused(l: &[u8], from: usize, s: &Sweep, o: u8) -> Option<Replacement>
     requires object { o < OBJECTS }
     requires from { From l.now from (position 4 (256 * s.now.node + o)) }

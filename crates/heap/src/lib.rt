@@ -10,6 +10,7 @@ ghost use Rattle.heap.specs.Heap.{idle, born, fresh_heap, object_at, is_live, fi
 ghost use Rattle.heap.specs.Heap.{with_root_in, with_field_in};
 ghost use Rattle.heap.specs.Heap.{fits_name, fits_field, fits_object, fits_roots, fits_heap};
 
+// The lengths of arrays are constants, which take no `From`: so `as`, here and below.
 #[derive(Clone, Copy)]
 pub struct Object {
     pub live: bool,

@@ -29,6 +29,7 @@ impl From<u16> for RecordKind {
 impl From<RecordKind> for u16 {
     ghost from_gives = { λ kind code. code ≡ code_of kind };
 
+    // `as` gives an enum's number.
     fn from(kind: RecordKind) -> u16 {
         kind as u16
     }

@@ -17,6 +17,7 @@ const CASE: usize = 41;
 // The most cases that are read.
 const CASES: u32 = 1000;
 
+// The sort of an entry, as the stored cases have it.
 const DIRECTORY: u8 = 1;
 
 // The entry is lent for the time of the call, and then read.

@@ -14,6 +14,7 @@ ghost use Rattle.std.specs.Prelude.{◌<◌};
 ghost use Rattle.terms.specs.Limits.{NODES};
 
 pub use changes::replaced;
+use heap::Heap;
 use image::Held;
 pub use lookups::{entry_from, object_from};
 pub use plans::plan_of;
@@ -47,7 +48,7 @@ pub struct Plan {
 pub struct Sweep {
     pub node: u8,
     pub reclaimed: u32,
-    pub gone: [bool; 64],
-    pub unused: [bool; 64],
+    pub gone: [bool; Heap::OBJECTS as usize],
+    pub unused: [bool; Heap::OBJECTS as usize],
     pub ghost is_node: { node < NODES },
 }

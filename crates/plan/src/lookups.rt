@@ -51,7 +51,7 @@ pub(crate) fn root_of(l: &[u8], p: u8, r: u8) -> u8
     roots_from(l, 0, p).held.roots().root(r)
 }
 
-// ---- objects that aren't live
+// ---- objects that aren't live; that p is a node stands in three private contracts of this crate, as in step's
 
 fn is_live(l: &[u8], o: u8) -> bool
     ensures { result ≡ (object_of l.now o).live }

@@ -34,11 +34,11 @@ fn heap_in(image: &[u8]) -> Heap
 }
 
 // For each object of p, whether its directory has RC above 0 or MsgCtr not 0.
-fn counted_in(image: &[u8], p: u8) -> [bool; 8]
+fn counted_in(image: &[u8], p: u8) -> [bool; Heap::OWNED as usize]
     requires { p < NODES }
     ensures { result ≡ counted_in image.now p }
 {
-    let mut tests = [false; 8];
+    let mut tests = [false; Heap::OWNED as usize];
     let mut at = 0;
     for k in 0..Heap::OWNED {
         let found = entry_from(image, at, p, Heap::OWNED * p + k);
@@ -52,7 +52,7 @@ fn counted_in(image: &[u8], p: u8) -> [bool; 8]
 fn present_in(image: &[u8], p: u8) -> Marks
     ensures { result.seen ≡ present_in image.now p }
 {
-    let mut seen = [false; 64];
+    let mut seen = [false; Heap::OBJECTS as usize];
     let mut at = 0;
     for o in 0..Heap::OBJECTS {
         if p != o / Heap::OWNED {
@@ -72,6 +72,7 @@ fn swept(collection: &Collection) -> Sweep
     ensures node { result.node ≡ collection.now.node }
     ensures tests { accepted_sweep result ≡ tested collection.now }
 {
+    // The casts lose nothing: there are 64 objects.
     Sweep {
         node: collection.node,
         reclaimed: collection.reclaimed(),

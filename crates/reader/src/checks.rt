@@ -15,6 +15,7 @@ pub fn check(bytes: &[u8]) -> Result<(), Refusal>
 {
     let mut turn = Turn::FIRST;
     let mut rest = bytes;
+    // No `for`: how far a turn goes stands in the record.
     loop {
         let front = front_of(turn, rest)?;
         if front.kind == RecordKind::End {

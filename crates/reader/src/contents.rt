@@ -15,6 +15,7 @@ use heap::{Object, Roots};
 use image::{HEAD, Held, RecordKind};
 use table::{Message, Table};
 
+// Byte by byte, here and below: `try_into` of a slice would hand back a Result that cannot fail.
 pub(crate) fn object_in(l: &[u8]) -> Object
     requires { HEAD_BYTES + length_of Live ≤ length l.now }
     ensures { result ≡ live_object (payload Live l.now) }

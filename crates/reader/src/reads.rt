@@ -44,6 +44,7 @@ fn fill(table: &mut Table, bytes: &[u8]) -> Result<(), Refusal>
 {
     let mut turn = Turn::FIRST;
     let mut rest = bytes;
+    // No `for`: how far a turn goes stands in the record.
     loop {
         let front = front_of(turn, rest)?;
         if front.kind == RecordKind::End {

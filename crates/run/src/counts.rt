@@ -9,6 +9,7 @@ ghost use Rattle.run.specs.Run.{entries_of};
 use heap::Heap;
 use table::Table;
 
+// The casts below lose nothing: there are 64 at most of each sort.
 pub(crate) fn live_objects(h: &Heap) -> u32
     ensures { result ≡ how_many OBJECTS (is_live h.now) }
 {

@@ -14,6 +14,7 @@ fn operand(l: &[u8]) -> Option<(u8, &[u8])>
     ensures { number_told result ≡ number_in operand_most l.now }
 {
     let (value, rest) = number(l, u16::from(u8::MAX))?;
+    // The cast loses nothing, by the limit.
     Some((value as u8, rest))
 }
 

@@ -9,6 +9,7 @@ fn skip(l: &[u8]) -> &[u8]
     ensures { result.now ≡ skipped l.now }
 {
     let mut rest = l;
+    // It goes by what is left, and counts nothing.
     while let [b' ' | b'\t', tail @ ..] = rest {
         rest = tail;
     }
@@ -32,6 +33,7 @@ fn digits(l: &[u8], limit: u16) -> Option<(u16, &[u8])>
     let most = u32::from(limit);
     let mut n: u32 = 0;
     let mut rest = l;
+    // As in `skip`. The cast below loses nothing, by the limit.
     while let [digit @ b'0'..=b'9', tail @ ..] = rest {
         n = 10 * n + u32::from(*digit - b'0');
         if most < n {

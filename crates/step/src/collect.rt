@@ -24,7 +24,7 @@ impl Collection {
     pub fn new(
         heap: Heap,
         node: u8,
-        counted: [bool; 8],
+        counted: [bool; Heap::OWNED as usize],
         present: Marks,
     ) -> Result<Collection, Refusal>
         ensures { result ≡ collection_of heap node counted present }
@@ -45,7 +45,7 @@ impl Collection {
         }
     }
 
-    // What is asked of node p of a table. That p is a node stands in four contracts here, all private, and the event's range shows it: a type of nodes
+    // What is asked of node p of a table. That p is a node stands in three contracts here and in `new`'s, all private, and the event's range shows it: a type of nodes
     // would go through every definition, whose arguments are numbers.
     fn at(t: &Table, p: u8) -> Result<Collection, Refusal>
         requires { p < NODES }
@@ -106,6 +106,7 @@ impl Collection {
     pub fn reclaimed(&self) -> u32
         ensures { result ≡ how_many OBJECTS (reclaims self.now.heap self.now.node self.now.kept.seen) }
     {
+        // The cast loses nothing: there are 64 at most.
         (0..Heap::OBJECTS).filter(|&o| self.is_reclaimed(o)).count() as u32
     }
 
@@ -121,6 +122,7 @@ impl Collection {
         ensures { result ≡ without_reclaimed self.heap self.node self.kept.seen }
     {
         let mut heap = self.heap;
+        // A loop: after a closure that changes the heap a proof would know nothing of it.
         for o in 0..Heap::OBJECTS {
             if self.is_reclaimed(o) {
                 heap.set_idle(o);
@@ -132,7 +134,7 @@ impl Collection {
 
 // For each object of p, whether its directory has RC above 0 or MsgCtr not 0.
 #[tactic(auto, unfolding(crate::specs::Collect::counted))]
-fn counted(t: &Table, p: u8) -> [bool; 8]
+fn counted(t: &Table, p: u8) -> [bool; Heap::OWNED as usize]
     requires { p < NODES }
     ensures counted { result ≡ counted t.now p }
     ensures cells { length t.now.cells ≡ OBJECTS }
@@ -158,6 +160,7 @@ pub(crate) fn collect(t: &mut Table, p: u8) -> Result<Deed, Refusal>
     ensures { outcome_of result t.new ≡ by t.old (collect t.old p) }
 {
     let collection = Collection::at(t, p)?;
+    // A loop, as in `heap_after`.
     for o in 0..Heap::OBJECTS {
         if collection.is_reclaimed(o) {
             // The directory of a reclaimed object goes with it.

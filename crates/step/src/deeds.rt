@@ -6,7 +6,7 @@ ghost use Rattle.step.specs.Outcome.{value_of, decrements_sent, decrements_saved
 use crate::Deed;
 
 impl Deed {
-    // What a value says where no decrement was sent.
+    // What a value says where no decrement was sent: the definition `value_of` fixes the number.
     pub const NODECREMENT: u32 = 255;
 
     pub fn value(self) -> u32

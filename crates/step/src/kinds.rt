@@ -31,6 +31,7 @@ impl From<u16> for Kind {
 impl From<Kind> for u16 {
     ghost from_gives = { λ kind number. number ≡ kind_number kind };
 
+    // `as` gives an enum's number.
     fn from(kind: Kind) -> u16 {
         kind as u16
     }

@@ -43,7 +43,7 @@ pub struct Slot {
     pub held: Entry,
 }
 
-// All that is known of one object: an entry for each node, or none.
+// All that is known of one object: an entry for each node, or none. The length is a constant, which takes no `From`: so `as`, here and below.
 #[derive(Clone, Copy)]
 pub struct Cell {
     pub at: [Slot; Table::NODES as usize],

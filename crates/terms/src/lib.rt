@@ -35,7 +35,7 @@ pub enum Refusal {
 }
 
 impl Refusal {
-    // A method and no `From`, since callers hand it on by name.
+    // A method and no `From`, since callers hand it on by name; `as` gives an enum's number.
     pub fn number(self) -> u8
         ensures { result ≡ number_of self }
     {

@@ -25,6 +25,7 @@ fn head(kind: RecordKind) -> Record
     ensures { result ≡ packed head_widths (length_of kind ∷ code_of kind ∷ []) }
 {
     let mut record = Buffer::new();
+    // The cast loses nothing: a payload has 16 bytes at most.
     record.word(kind.length() as u16);
     record.word(kind.into());
     record

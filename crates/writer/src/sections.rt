@@ -24,6 +24,7 @@ fn append_heap(image: &mut Buffer<FULL>, heap: &Heap)
     requires { length image.old + HEAP_BYTES ≤ ROOM_FOR_ALL }
     ensures { Appended HEAP_BYTES (heap_records heap.now) image.old image.new }
 {
+    // The casts lose nothing: there are 64 objects and eight nodes.
     for (o, object) in heap.objects.iter().enumerate() {
         image.append(object_record(o as u8, *object).bytes());
     }
