@@ -19,7 +19,7 @@ use Rattle.plan.specs.Change.{Change, To, Sweep}
 use Rattle.etzvanul.specs.declared.Cursor.{Cursor}
 use Rattle.etzvanul.specs.Orderly.{Orderly, Cuts, Moved, passed, put, length_with, length_after, counted_length}
 use Rattle.plan.specs.Sweep.{object_gone, directory_gone, entry_unused, sweep_changes}
-use Rattle.etzvanul.specs.InTurn.{Gives, Puts}
+use Rattle.etzvanul.specs.InTurn.{Gives, Puts, Measures}
 use Rattle.etzvanul.specs.SweepOnward.{Resumes, first_on, object_on, directory_on, entry_on}
 use Rattle.etzvanul.specs.Spliced.{swept_image}
 use Rattle.etzvanul.specs.Going.{Going, ready, on, start, Lasting, taken, lasting_on, Measured}
@@ -188,4 +188,25 @@ module _ {l : List ℕ} {p : ℕ} {s : Sweep} (r : Resumes l p s) {pre : ℕ →
     gives = entry_gives asked given;
     scan = from_later l c.from _ _ (omega arith) at.1;
     going = behind at.0 (sym (append-nil _));
+  }
+
+  -- and the length does
+  pub object_measures : {old whole m : ℕ} → Measured old whole FULL (objects_left l p s 0) m
+      → ((from k : ℕ) → k < OWNED → From l from (position 1 (OWNED * p + k)) → pre from k)
+      → ((from k : ℕ) (x : Option Replacement) → k < OWNED → From l from (position 1 (OWNED * p + k)) → post from k x
+      → change_of x ≡ object_gone l p s.gone k)
+      → Measures l OWNED pre post (object_gone l p s.gone) (λ k. position 1 (OWNED * p + k)) old whole FULL (directories_left l p s 0) 8 m
+  object_measures measured asked given = record { gives = object_gives asked given; scan = first_on r; measured = measured; small = omega arith }
+
+  pub directory_measures : {old whole m from : ℕ}
+      → Measured old whole (FULL + 160) (directories_left l p s 0) m × From l from (position 1 (OWNED * p + OWNED))
+      → ((from k : ℕ) → k < OWNED → From l from (position 3 (OWNED * p + k)) → pre from k)
+      → ((from k : ℕ) (x : Option Replacement) → k < OWNED → From l from (position 3 (OWNED * p + k)) → post from k x
+      → change_of x ≡ directory_gone l p s.gone k)
+      → Measures l OWNED pre post (directory_gone l p s.gone) (λ k. position 3 (OWNED * p + k)) old whole (FULL + 160) (entries_left l p s 0) from m
+  directory_measures {from = from} at asked given = record {
+    gives = directory_gives asked given;
+    scan = from_later l from _ _ (omega arith) at.1;
+    measured = at.0;
+    small = omega arith;
   }

@@ -21,9 +21,10 @@ use Rattle.table.specs.declared.Table.{Table}
 use Rattle.table.specs.Shape.{fits_table}
 use Rattle.table.specs.ShapeLaws.{Shaped, shaped}
 use Rattle.table.specs.Table.{entry_at, message_at}
-use Rattle.image.specs.declared.RecordKind.TheVariants.{Count, Live, End}
+use Rattle.image.specs.declared.RecordKind.{RecordKind}
+use Rattle.image.specs.declared.RecordKind.TheVariants.{Count, Live, NodeRoots, Directory, Remote, Reference, Decrement, End, Unknown}
 use Rattle.image.proofs.ReadLaws.{bytes_append}
-use Rattle.image.specs.Records.{Record, row}
+use Rattle.image.specs.Records.{Record, row, length_of}
 use Rattle.image.specs.Writer.{object_record, roots_record, directory_record, remote_record, message_record, records_of, bytes_of_all, image}
 
 -- the bytes of records
@@ -142,3 +143,15 @@ module _ (t : Table) (shape : Shaped t) where
 pub image_size : (t : Table) → fits_table t ≡ true → (116 ≤ length (image t)) × (length (image t) ≤ 11508)
 unfolding image
 image_size t fits = records_size t (shaped t fits)
+
+-- no payload is longer
+pub payload_small : (k : RecordKind) → length_of k ≤ 16
+payload_small Count = omega arith
+payload_small Live = omega arith
+payload_small NodeRoots = omega arith
+payload_small Directory = omega arith
+payload_small Remote = omega arith
+payload_small Reference = omega arith
+payload_small Decrement = omega arith
+payload_small End = omega arith
+payload_small Unknown = omega arith

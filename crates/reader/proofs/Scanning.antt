@@ -3,22 +3,10 @@
 use Rattle.std.proofs.Common.{◌≡◌, refl, sym, ap, ◌∙◌, List, [], ◌∷◌, ℕ, zero, suc, ◌+◌, ◌-◌, ◌≤◌, ◌<◌, sub-one, arith, length, drop, get_or, length-drop, drop-drop, get_or-drop}
 use borrow.Author.Tests.{lt-ltb, le-ltb}
 use Rattle.image.specs.declared.RecordKind.{RecordKind}
-use Rattle.image.specs.declared.RecordKind.TheVariants.{Count, Live, NodeRoots, Directory, Remote, Reference, Decrement, End, Unknown}
 use Rattle.image.specs.Find.{kind_of_low, front_kind, front_place, front_size, KEYED, passed_by, offset}
 use Rattle.image.specs.Order.{position_of}
 use Rattle.image.specs.Records.{HEAD, length_of}
-
--- no payload is longer
-pub payload_small : (k : RecordKind) → length_of k ≤ 16
-payload_small Count = omega arith
-payload_small Live = omega arith
-payload_small NodeRoots = omega arith
-payload_small Directory = omega arith
-payload_small Remote = omega arith
-payload_small Reference = omega arith
-payload_small Decrement = omega arith
-payload_small End = omega arith
-payload_small Unknown = omega arith
+use Rattle.image.proofs.Sizes.{payload_small}
 
 -- ---- one record of the definition
 

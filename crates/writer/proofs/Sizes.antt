@@ -10,9 +10,8 @@ use Rattle.table.specs.declared.Cell.{Cell}
 use Rattle.table.specs.declared.Message.{Message}
 use Rattle.table.specs.declared.Message.TheVariants as m
 use Rattle.table.specs.declared.Place.{Place}
-use Rattle.image.specs.declared.RecordKind.{RecordKind}
-use Rattle.image.specs.declared.RecordKind.TheVariants.{Count, Live, NodeRoots, Directory, Remote, Reference, Decrement, End, Unknown}
-use Rattle.image.specs.Records.{row, length_of}
+use Rattle.image.specs.declared.RecordKind.TheVariants.{Live}
+use Rattle.image.specs.Records.{row}
 use Rattle.image.specs.Stored.{OBJECT_BYTES, ROOTS_BYTES, DIRECTORY_BYTES, REMOTE_BYTES, MESSAGE_BYTES, live_record, node_record, entry_of, directory_of, remote_of, message_of}
 use Rattle.image.specs.Writer.{directory_record, remote_record, message_record, bytes_of_all}
 
@@ -57,14 +56,3 @@ remote_size cells p o = go (entry_of cells p o)
     go Absent = omega arith
     go (AtOwner d) = omega arith
     go (Elsewhere r) = omega arith
-
-pub payload_size : (k : RecordKind) → length_of k ≤ 16
-payload_size Count = omega arith
-payload_size Live = omega arith
-payload_size NodeRoots = omega arith
-payload_size Directory = omega arith
-payload_size Remote = omega arith
-payload_size Reference = omega arith
-payload_size Decrement = omega arith
-payload_size End = omega arith
-payload_size Unknown = omega arith

@@ -20,7 +20,7 @@ use table::Message;
 type Record = Buffer<20>;
 
 // The head of a record: how long its payload is, and the number of its kind.
-#[tactic(auto, using(crate::proofs::Sizes::payload_size))]
+#[tactic(auto, using(image::proofs::Sizes::payload_small))]
 fn head(kind: RecordKind) -> Record
     ensures { result ≡ packed head_widths (length_of kind ∷ code_of kind ∷ []) }
 {
