@@ -20,14 +20,16 @@ use writer::record_of;
 // The bytes of the record of the event count, which stands first.
 pub(crate) const COUNTED: usize = 8;
 
-// Bytes, from a place of the new image on; the place after them comes back.
+// Bytes, from a place of the new image on; the place after them comes back. Byte by byte, which becomes vector code: `copy_from_slice` would need
+// `memmove` of the host, besides `memcpy` and `memset`.
 pub(crate) fn copy_part(out: &mut [u8], to: usize, part: &[u8]) -> usize
     requires { to + length part.now ≤ length out.old }
     ensures { Stored out.old to part.now out.new result }
 {
-    let next = to + part.len();
-    out[to..next].copy_from_slice(part);
-    next
+    for (i, byte) in part.iter().enumerate() {
+        out[to + i] = *byte;
+    }
+    to + part.len()
 }
 
 // A change, if there is one: the old image up to a record, then the record that is to stand there. The buffer, the old image and the cursor stay

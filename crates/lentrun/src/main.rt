@@ -28,7 +28,7 @@ fn lent_out(mut e: Entry, m: ReturnCount, n: Weight) -> Act<Entry>
     Act { refusal, entry: e }
 }
 
-// Reader has the like, private to it: this program stands on `lent` alone.
+// Reader has the like, private to it: this program has no use for an image.
 fn number_at(s: &[u8; CASE], at: usize) -> u32
     requires { at + 4 ≤ 41 }
 {

@@ -1,8 +1,8 @@
 -- The loop of the check: the reader's loop, whose table nobody keeps. Assumes nothing.
-use Rattle.std.specs.Prelude.{Result, Ok, Err, IsErrAnd, ⊤}
+use Rattle.std.specs.Prelude.{Ok, Err}
 use Rattle.std.proofs.Common.{◌≡◌, sym, ap, ◌∙◌, false, List, ℕ}
 use Rattle.terms.specs.Numbers.{ACCEPTED}
-use Rattle.terms.specs.Refusals.{answer_of, number_of}
+use Rattle.terms.specs.Refusals.{number_of}
 use Rattle.terms.specs.declared.Refusal.{Refusal}
 use Rattle.table.specs.declared.Table.{Table}
 use Rattle.table.specs.Table.{fresh_table}
@@ -35,10 +35,8 @@ decides s l e = sym (answer-check s) ∙ ap (λ (x : Loaded). x.answer) e
 
 module _ {s : List ℕ} {turn : Turn} {rest : List ℕ} (c : Checking s turn rest) where
   -- a refusal decides
-  pub refused : (e : Refusal) → front_of_result (Err e) ≡ front_of turn rest
-      → (r : Result ⊤ Refusal) → IsErrAnd r (λ x. x ≡ e) → answer_of r ≡ check s
-  refused e is (Ok x) same = elim same [ ]
-  refused e is (Err x) same = ap number_of same ∙ sym (decides s _ (stopped c.reading e is))
+  pub refused : (e : Refusal) → front_of_result (Err e) ≡ front_of turn rest → number_of e ≡ check s
+  refused e is = sym (decides s _ (stopped c.reading e is))
 
   module _ {f : taken.Front} (is : front_of_result (Ok f) ≡ front_of turn rest) where
     -- and so does the end

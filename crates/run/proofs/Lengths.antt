@@ -14,7 +14,7 @@ use Rattle.run.proofs.Decimal.{decimal_most}
 
 -- a number of 32 bits has ten digits at most
 ten : (n : ℕ) → n < 2 ^ 32 → length (decimal n) ≤ 10
-ten n lt = decimal_most 9 n (omega arith) (omega arith)
+ten n lt = decimal_most 9 n (omega arith)
 
 -- an event's numbers, as its type bounds them
 pub record FitsEvent (e : Event) : Type 0 where
@@ -29,13 +29,13 @@ module _ (number : ℕ) (e : Event) (o : Outcome) (fits : FitsEvent e) (few : nu
   line_most : length (line number e o) ≤ LINE
   unfolding line
   line_most =
-      let n = decimal_most 3 number (omega arith) (omega arith) in
-      let k = decimal_most 4 e.kind (omega arith) (omega arith) in
-      let a = decimal_most 2 e.a (omega arith) (omega arith) in
-      let b = decimal_most 2 e.b (omega arith) (omega arith) in
-      let c = decimal_most 2 e.c (omega arith) (omega arith) in
-      let d = decimal_most 2 e.d (omega arith) (omega arith) in
-      let r = decimal_most 2 o.answer (omega arith) (omega arith) in
+      let n = decimal_most 3 number (omega arith) in
+      let k = decimal_most 4 e.kind (omega arith) in
+      let a = decimal_most 2 e.a (omega arith) in
+      let b = decimal_most 2 e.b (omega arith) in
+      let c = decimal_most 2 e.c (omega arith) in
+      let d = decimal_most 2 e.d (omega arith) in
+      let r = decimal_most 2 o.answer (omega arith) in
       let v = ten (value_of o.deed) value in
       simp length-append (omega arith)
 

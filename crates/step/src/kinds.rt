@@ -56,10 +56,13 @@ impl Kind {
     }
 }
 
-// An operand that a kind doesn't list must be 0.
-const UNUSED: u8 = 1;
+// As the rows above name it.
+const UNUSED: u8 = Ranges::UNUSED;
 
 impl Ranges {
+    // An operand that a kind doesn't list must be 0.
+    pub const UNUSED: u8 = 1;
+
     fn of(a: u8, b: u8, c: u8, d: u8) -> Ranges
         ensures { result ≡ ranges a b c d }
     {

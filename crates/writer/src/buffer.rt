@@ -12,6 +12,9 @@ pub(crate) struct Buffer<const N: usize> {
     length: usize,
 }
 
+// No record has more bytes. The number stands again where it becomes a `RecordBytes`, whose 20 `Tells` fixes.
+pub(crate) type Record = Buffer<20>;
+
 impl<const N: usize> Model for Buffer<N> {
     ghost Value = { List ℕ };
 
@@ -38,6 +41,21 @@ impl<const N: usize> Buffer<N> {
         let all = &mut self.bytes[..];
         all[self.length..end].copy_from_slice(more);
         self.length = end;
+    }
+
+    // A record, by a copy of all its room, which takes no call; what stands behind its length counts for nothing. Of most things in a table there
+    // is none.
+    pub(crate) fn append_record(&mut self, record: &Record)
+        requires { length self.old + 20 ≤ N }
+        ensures { self.new ≡ self.old ++ record.now }
+    {
+        if record.length == 0 {
+            return;
+        }
+        let from = self.length;
+        let all = &mut self.bytes[..];
+        all[from..from + 20].copy_from_slice(&record.bytes);
+        self.length = from + record.length;
     }
 
     // Two bytes, the lowest first.

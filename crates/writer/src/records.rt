@@ -10,14 +10,11 @@ ghost use Rattle.image.specs.Records.{head_widths, length_of, code_of, row};
 ghost use Rattle.image.specs.Stored.{live_record, node_record};
 ghost use Rattle.image.specs.Writer.{directory_record, remote_record, message_record, bytes_of_all};
 
-use crate::buffer::Buffer;
+use crate::buffer::{Buffer, Record};
 use entry::Entry;
 use heap::{Object, Roots};
 use image::{Held, RecordBytes, RecordKind};
 use table::Message;
-
-// No record has more bytes. The number stands again where `Buffer` becomes a `RecordBytes`, whose 20 `Tells` fixes.
-type Record = Buffer<20>;
 
 // The head of a record: how long its payload is, and the number of its kind.
 #[tactic(auto, using(image::proofs::Sizes::payload_small))]

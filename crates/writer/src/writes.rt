@@ -5,7 +5,8 @@ ghost use Rattle.std.specs.Prelude.{◌≡◌, ◌≤◌};
 ghost use Rattle.image.specs.Stored.{FULL as ROOM_FOR_ALL};
 ghost use Rattle.image.specs.Writer.{written_of, put_answer, put_length, put_bytes, write_answer, write_length, write_bytes};
 
-use crate::sections::image_of;
+use crate::buffer::Buffer;
+use crate::sections::append_image;
 use table::Table;
 use terms::Refusal;
 
@@ -17,7 +18,8 @@ pub fn put_image(t: &Table, out: &mut [u8]) -> Result<usize, Refusal>
     ensures bytes { out.new ≡ put_bytes t.now out.old }
     ensures small { (written_of result).length ≤ ROOM_FOR_ALL }
 {
-    let image = image_of(t);
+    let mut image = Buffer::new();
+    append_image(&mut image, t);
     let made = image.bytes();
     let length = made.len();
     if out.len() < length {

@@ -1,13 +1,19 @@
-use Rattle.std.proofs.Common.{◌+◌, ◌-◌, length, sym, ◌∙◌, refl, arith}
+use Rattle.std.proofs.Common.{refl, arith}
+use Rattle.std.proofs.Math.ListN.{length-set}
 use Rattle.std.proofs.lemmas.List.{take_all}
-use Rattle.std.proofs.lemmas.List.Edits.{sets-eq}
-use Rattle.std.proofs.lemmas.Slice.{put_mid-paste}
+use Rattle.terms.proofs.BufferLaws.{sets_more}
 use Rattle.etzvanul.proofs.puts.copy_part.Goals as goal
+
+pub loop-i-preserved : goal.loop-i-preserved
+loop-i-preserved c =
+    let a = c.args in
+    let i = c.loop-i.i in
+    record {
+      keeps_length = simp length-set c.loop-i.invariant.keeps_length;
+      stands = rw c.loop-i.invariant.stands (sets_more a.out.now a.to a.part.now i (omega arith));
+    }
 
 pub returns : goal.returns
 returns c =
-    let a = c.args in
-    let part = a.part.now in
-    let pasted = put_mid-paste a.to (a.to + length part - a.to) a.out.now c.copy_from_slice.new.self part (length part) c.copy_from_slice.ensures.after (omega arith) refl in
-    let whole = take_all (length part) part (omega arith) in
-    record { place = refl; stands = rw whole at pasted ∙ sym (sets-eq part a.out.now a.to c.requires) }
+    let part = c.args.part.now in
+    record { place = refl; stands = rw (take_all c.loop-i.i part (omega arith)) at c.loop-i.invariant.stands }

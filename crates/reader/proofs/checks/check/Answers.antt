@@ -4,10 +4,10 @@ use Rattle.image.specs.contracts.RecordKind.{the_type}
 use Rattle.reader.proofs.Checking.{refused, accepted}
 use Rattle.reader.proofs.checks.check.Goals as goal
 
-pub returns-in_err-front : goal.returns-in_err-front
-returns-in_err-front c =
-    refused c.loop-front.invariant _ c.in_err-front.ensures.front _ c.from_residual.ensures.1
+pub returns-in-Err : goal.returns-in-Err
+returns-in-Err c =
+    refused c.loop-front.invariant _ c.in-Err.ensures.front
 
-pub returns-then-eq : goal.returns-then-eq
-returns-then-eq c =
-    accepted c.loop-front.invariant c.in_ok-front.ensures.front (same_true the_type (search rules) _ _ (sym c.if-eq.ensures))
+pub returns-in-Ok : goal.returns-in-Ok
+returns-in-Ok c =
+    accepted c.loop-front.invariant c.in-Ok.ensures.front (same_true the_type (search rules) _ _ (sym c.if-eq.ensures))

@@ -1,5 +1,5 @@
 use Rattle.std.specs.Prelude.{List, ℕ, ◌*◌}
-use Rattle.std.proofs.Common.{◌∙◌, arith}
+use Rattle.std.proofs.Common.{arith}
 use Rattle.terms.specs.Counted.{gather}
 use Rattle.terms.specs.Limits.{OBJECTS}
 use Rattle.table.specs.declared.Cell.{Cell}
@@ -21,7 +21,7 @@ loop-o-preserved c =
     let o = c.loop-o.o in
     let made = rw c.entry_at-entry.ensures at c.directory_record.ensures in
     one_more DIRECTORY_BYTES (directory_of cells) o c.loop-o.invariant
-    c.append.ensures (c.bytes.ensures ∙ made) (directory_size cells o)
+    c.append_record.ensures made (directory_size cells o)
 
 pub loop-p-init : goal.loop-p-init
 loop-p-init c = begun (REMOTE_BYTES * OBJECTS) (nodes c.args.t.now.cells)
@@ -36,7 +36,7 @@ loop-o-2-preserved c =
     let o = c.loop-o-2.o in
     let made = rw c.entry_at.ensures at c.remote_record.ensures in
     one_more REMOTE_BYTES (remote_of cells p) o c.loop-o-2.invariant
-    c.append-in-loop-o-2.ensures (c.bytes-in-loop-o-2.ensures ∙ made) (remote_size cells p o)
+    c.append_record-in-loop-o-2.ensures made (remote_size cells p o)
 
 pub loop-p-preserved : goal.loop-p-preserved
 loop-p-preserved c =

@@ -1,5 +1,5 @@
 use Rattle.std.specs.Prelude.{List, ℕ}
-use Rattle.std.proofs.Common.{◌∙◌, arith}
+use Rattle.std.proofs.Common.{arith}
 use Rattle.heap.specs.declared.Heap.{Heap}
 use Rattle.heap.specs.Heap.{object_at, roots_at}
 use Rattle.image.specs.Records.{Record}
@@ -22,7 +22,7 @@ loop-o-preserved c =
     let h = c.args.heap.now in
     let o = c.loop-o.o in
     one_more OBJECT_BYTES (objects h) o c.loop-o.invariant
-    c.append.ensures (c.bytes.ensures ∙ c.object_record.ensures) (object_size o (object_at h o))
+    c.append_record.ensures c.object_record.ensures (object_size o (object_at h o))
 
 pub loop-p-init : goal.loop-p-init
 loop-p-init c = begun ROOTS_BYTES (nodes c.args.heap.now)
@@ -32,7 +32,7 @@ loop-p-preserved c =
     let h = c.args.heap.now in
     let p = c.loop-p.p in
     one_more ROOTS_BYTES (nodes h) p c.loop-p.invariant
-    c.append-in-loop-p.ensures (c.bytes-in-loop-p.ensures ∙ c.roots_record.ensures) (roots_size p (roots_at h p))
+    c.append_record-in-loop-p.ensures c.roots_record.ensures (roots_size p (roots_at h p))
 
 pub returns : goal.returns
 returns c =
