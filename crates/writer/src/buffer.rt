@@ -12,7 +12,7 @@ pub(crate) struct Buffer<const N: usize> {
     length: usize,
 }
 
-// No record has more bytes. The number stands again where it becomes a `RecordBytes`, whose 20 `Tells` fixes.
+// No record has more bytes. The number stands again in `append_record`, and where it becomes a `RecordBytes`, whose 20 `Tells` fixes.
 pub(crate) type Record = Buffer<20>;
 
 impl<const N: usize> Model for Buffer<N> {
@@ -43,8 +43,8 @@ impl<const N: usize> Buffer<N> {
         self.length = end;
     }
 
-    // A record, by a copy of all its room, which takes no call; what stands behind its length counts for nothing. Of most things in a table there
-    // is none.
+    // A record, by a copy of all its room, which takes no call; what stands behind its length counts for nothing. Most things in a table have a
+    // record of no bytes.
     pub(crate) fn append_record(&mut self, record: &Record)
         requires { length self.old + 20 ≤ N }
         ensures { self.new ≡ self.old ++ record.now }

@@ -15,7 +15,7 @@ use entry::Entry;
 use heap::Heap;
 use table::Table;
 
-// Room for a record of everything that could have one, and behind the last for as much as is copied at once.
+// Room for a record of everything that could have one, and 20 bytes more, since a record is copied with all its room.
 pub(crate) const ROOM: usize = 12808;
 
 // The live objects, then the roots of every node. Here and below each sort of record has a loop of its own: one function that takes what makes a
@@ -59,7 +59,7 @@ fn append_messages(image: &mut Buffer<ROOM>, t: &Table)
     }
 }
 
-// The image of any table, in one pass over it, behind nothing. The buffer is lent: one that is handed back would be copied, with all its room.
+// The image of any table, in one pass over it, into an empty buffer. The buffer is lent: one that is handed back would be copied, with all its room.
 pub(crate) fn append_image(all: &mut Buffer<ROOM>, t: &Table)
     requires { all.old ≡ [] }
     ensures all { all.new ≡ image t.now }
