@@ -1,9 +1,9 @@
 // The whole image, section by section, in a buffer with room for every record that a table could have.
 #![tactic(auto, using(crate::proofs::Sizes::message_size), unfolding(image::specs::Writer::bytes_of_all))]
 
-ghost use Rattle.std.specs.Prelude.{◌≡◌, ◌+◌, ◌≤◌, [], length};
+ghost use Rattle.std.specs.Prelude.{◌≡◌, ◌+◌, ◌≤◌, ◌++◌, [], length};
 ghost use Rattle.image.specs.Stored.{FULL as ROOM_FOR_ALL, HEAP_BYTES, CELLS_BYTES, AIR_BYTES, heap_records, cells_records, air_records};
-ghost use Rattle.image.specs.Writer.{image};
+ghost use Rattle.image.specs.Writer.{image, remote_record, bytes_of_all};
 ghost use Rattle.writer.specs.Appended.{Appended};
 
 use crate::buffer::Buffer;
@@ -33,6 +33,17 @@ fn append_heap(image: &mut Buffer<ROOM>, heap: &Heap)
     }
 }
 
+// What stands at a node for an object, if it is no directory. Mostly nothing does, and then no record is made.
+fn append_remote(image: &mut Buffer<ROOM>, p: u8, o: u8, entry: Entry)
+    requires { length image.old + 20 ≤ 12808 }
+    ensures { image.new ≡ image.old ++ bytes_of_all (remote_record p o entry) }
+{
+    match entry {
+        Entry::Absent | Entry::AtOwner(_) => {}
+        Entry::Elsewhere(_) => image.append_record(&remote_record(p, o, entry)),
+    }
+}
+
 // The directories by object, then the other entries by node and object.
 fn append_entries(image: &mut Buffer<ROOM>, t: &Table)
     requires { length image.old + CELLS_BYTES ≤ ROOM_FOR_ALL }
@@ -44,7 +55,7 @@ fn append_entries(image: &mut Buffer<ROOM>, t: &Table)
     }
     for p in 0..Table::NODES {
         for o in 0..Table::OBJECTS {
-            image.append_record(&remote_record(p, o, t.entry_at(p, o)));
+            append_remote(image, p, o, t.entry_at(p, o));
         }
     }
 }

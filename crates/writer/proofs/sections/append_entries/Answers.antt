@@ -1,9 +1,10 @@
-use Rattle.std.specs.Prelude.{List, ℕ, ◌*◌}
+use Rattle.std.specs.Prelude.{◌≡◌, refl, List, ◌++◌, ℕ, ◌*◌}
 use Rattle.std.proofs.Common.{arith}
 use Rattle.terms.specs.Counted.{gather}
 use Rattle.terms.specs.Limits.{OBJECTS}
 use Rattle.table.specs.declared.Cell.{Cell}
 use Rattle.image.specs.Records.{Record}
+use Rattle.image.specs.Writer.{bytes_of_all}
 use Rattle.image.specs.Stored.{DIRECTORY_BYTES, REMOTE_BYTES, directory_of, remote_of}
 use Rattle.writer.proofs.Behind.{begun, onward, one_more, all, appended_both}
 use Rattle.writer.proofs.Sizes.{directory_size, remote_size}
@@ -34,9 +35,8 @@ loop-o-2-preserved c =
     let cells = c.args.t.now.cells in
     let p = c.loop-p.p in
     let o = c.loop-o-2.o in
-    let made = rw c.entry_at.ensures at c.remote_record.ensures in
-    one_more REMOTE_BYTES (remote_of cells p) o c.loop-o-2.invariant
-    c.append_record-in-loop-o-2.ensures made (remote_size cells p o)
+    let made : c.append_remote.new.image ≡ c.loop-o-2.image ++ bytes_of_all (remote_of cells p o) = rw c.entry_at.ensures at c.append_remote.ensures in
+    one_more REMOTE_BYTES (remote_of cells p) o c.loop-o-2.invariant made refl (remote_size cells p o)
 
 pub loop-p-preserved : goal.loop-p-preserved
 loop-p-preserved c =
