@@ -43,8 +43,8 @@ impl<const N: usize> Buffer<N> {
         self.length = end;
     }
 
-    // A record, by a copy of all its room, which takes no call; what stands behind its length counts for nothing. Most things in a table have a
-    // record of no bytes.
+    // A record, by a copy of all its room, which takes no call; what stands behind its length counts for nothing. Of an object, a directory or a
+    // message that isn't there the record has no bytes.
     pub(crate) fn append_record(&mut self, record: &Record)
         requires { length self.old + 20 ≤ N }
         ensures { self.new ≡ self.old ++ record.now }

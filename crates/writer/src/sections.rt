@@ -2,7 +2,7 @@
 #![tactic(auto, using(crate::proofs::Sizes::message_size), unfolding(image::specs::Writer::bytes_of_all))]
 
 ghost use Rattle.std.specs.Prelude.{◌≡◌, ◌+◌, ◌≤◌, ◌++◌, [], length};
-ghost use Rattle.image.specs.Stored.{FULL as ROOM_FOR_ALL, HEAP_BYTES, CELLS_BYTES, AIR_BYTES, heap_records, cells_records, air_records};
+ghost use Rattle.image.specs.Stored.{FULL as ROOM_FOR_ALL, REMOTE_BYTES, HEAP_BYTES, CELLS_BYTES, AIR_BYTES, heap_records, cells_records, air_records};
 ghost use Rattle.image.specs.Writer.{image, remote_record, bytes_of_all};
 ghost use Rattle.writer.specs.Appended.{Appended};
 
@@ -33,9 +33,9 @@ fn append_heap(image: &mut Buffer<ROOM>, heap: &Heap)
     }
 }
 
-// What stands at a node for an object, if it is no directory. Mostly nothing does, and then no record is made.
+// What stands at a node for an object, if it is no directory. In most tables mostly nothing does, and then no record is made.
 fn append_remote(image: &mut Buffer<ROOM>, p: u8, o: u8, entry: Entry)
-    requires { length image.old + 20 ≤ 12808 }
+    requires { length image.old + REMOTE_BYTES ≤ ROOM_FOR_ALL }
     ensures { image.new ≡ image.old ++ bytes_of_all (remote_record p o entry) }
 {
     match entry {
